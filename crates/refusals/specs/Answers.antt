@@ -1,0 +1,27 @@
+-- What a call gives back, as document 01 counts it: 0 and the call's values, or a refusal's number and its place.
+use Prim.Native.Nat.{ℕ}
+use mathlib.Core.Bool.{Bool, true, false}
+
+pub data Answer (A : Type 0) : Type 0 where
+  done : A → Answer A
+  refused : ℕ → ℕ → Answer A
+
+-- "0 means done"
+abbrev pub number : {A : Type 0} → Answer A → ℕ
+number (done a) = 0
+number (refused e p) = e
+
+-- What a reading that is done gives: the value, the place of its last byte, and where reading goes on.
+pub record Read (A : Type 0) : Type 0 where
+  pub value : A
+  pub place : ℕ
+  pub next : ℕ
+
+-- the answer of the next step, where this one is done; a refusal is passed on as it stands
+abbrev pub then : {A B : Type 0} → Answer A → (A → Answer B) → Answer B
+then (done a) k = k a
+then (refused e p) k = refused e p
+
+abbrev pub pick : {A : Type 0} → Bool → A → A → A
+pick true a b = a
+pick false a b = b

@@ -1,0 +1,62 @@
+-- Laying bytes: what the loop keeps, and each way out of it.
+use Prim.Native.Nat.{ℕ, _+_, _-_, _≤_, _<_}
+use mathlib.Core.Path.{_≡_, refl, sym, _∙_, ap}
+use mathlib.Core.List.{List, [], _∷_}
+use native.Mathlib.Omega.{arith}
+use native.Mathlib.Numerals.{add-one}
+use borrow.Author.Tests.{le-leb, lt-leb}
+use lib.ListN.{length, getD, drop, set, length-set, drop-of-length-le}
+use lib.Seq.{sets, drop-cons}
+use Rattle.refusals.specs.declared.Refusal.{Refusal}
+use Rattle.refusals.specs.declared.Refusal.the-variants.{TooShort}
+use Rattle.wire.specs.declared.Written.the-variants.{Next, NotWritten}
+use Rattle.wire.specs.Sending.{writtenOf, writeAt, afterWrite}
+
+-- what is left, laid from here, ends where the whole ends
+pub record Laying (w out₀ out : List ℕ) (at i : ℕ) : Type 0 where
+  pub upto : i ≤ length w
+  pub long : length out ≡ length out₀
+  pub whole : sets out (at + i) (drop i w) ≡ sets out₀ at w
+
+pub laying-none : (w out : List ℕ) (at : ℕ) → Laying w out out at 0
+laying-none w out at =
+    let z : at + 0 ≡ at = omega arith in
+    record { upto = omega arith; long = refl; whole = ap (λ (k : ℕ). sets out k w) z }
+
+pub laying-more : (w out₀ out : List ℕ) (at i : ℕ) → Laying w out₀ out at i → i < length w → Laying w out₀ (set out (at + i) (getD w i 0)) at (i + 1)
+laying-more w out₀ out at i f h =
+    let b = getD w i 0 in
+    let d : drop i w ≡ b ∷ drop (i + 1) w = drop-cons w i 0 h ∙ rw (add-one i) in
+    let z : at + (i + 1) ≡ at + i + 1 = omega arith in
+    record {
+      upto = omega arith;
+      long = length-set out (at + i) b ∙ f .long;
+      whole = rw (z, add-one (at + i)) (rw d at (f .whole));
+    }
+
+pub laying-end : (w out₀ out : List ℕ) (at i : ℕ) → Laying w out₀ out at i → length w ≤ i → out ≡ sets out₀ at w
+laying-end w out₀ out at i f h = let d : drop i w ≡ [] = drop-of-length-le w h in rw d at (f .whole)
+
+-- the answers, with the tests as the code leaves them
+module _ (w l : List ℕ) (at : ℕ) where
+  pub past-end : length l < at → writtenOf (NotWritten TooShort) ≡ writeAt w (length l) at
+  unfolding writtenOf writeAt
+  past-end h = rw (lt-leb (at + length w) (length l) (omega arith))
+
+  pub no-room : at ≤ length l → length l - at < length w → writtenOf (NotWritten TooShort) ≡ writeAt w (length l) at
+  unfolding writtenOf writeAt
+  no-room p h = rw (lt-leb (at + length w) (length l) (omega arith))
+
+  pub all-laid : at ≤ length l → length w ≤ length l - at → writtenOf (Next (at + length w)) ≡ writeAt w (length l) at
+  unfolding writtenOf writeAt
+  all-laid p h = rw (le-leb (at + length w) (length l) (omega arith))
+
+  pub none-changed : (e : Refusal) → l ≡ afterWrite (writtenOf (NotWritten e)) w l at
+  unfolding writtenOf afterWrite
+  none-changed e = refl
+
+  pub all-changed : (n : ℕ) {o : List ℕ} → o ≡ sets l at w → o ≡ afterWrite (writtenOf (Next n)) w l at
+  unfolding writtenOf afterWrite
+  all-changed n e = e
+
+pub ruleset layings = (laying-none, laying-more, laying-end, past-end, no-room, all-laid, none-changed, all-changed)

@@ -1,0 +1,34 @@
+-- Bytes that are written.
+use Prim.Native.Nat.{ℕ, _+_}
+use mathlib.Core.List.{List}
+use lib.ListN.{length, take}
+use lib.Seq.{sets}
+use lib.Dec.{leb}
+use Rattle.memory.specs.declared.Remembered.{Remembered}
+use Rattle.refusals.specs.Refusals.{numberOf}
+use Rattle.refusals.specs.Answers.{Answer, done, refused, pick}
+use Rattle.wire.specs.declared.Written.{Written}
+use Rattle.wire.specs.declared.Written.the-variants.{Next, NotWritten}
+use Rattle.wire.specs.declared.Spelling.{Spelling}
+
+-- what the answer says; "counts with a refusal are 0"
+unfoldable pub writtenOf : Written → Answer ℕ
+writtenOf (Next n) = done n
+writtenOf (NotWritten e) = refused (numberOf e) 0
+
+-- the bytes of a spelling
+abbrev pub spelled : Spelling → List ℕ
+spelled w = take (w .len) (w .bytes)
+
+-- a parameter's bytes as they are sent: each as itself, "the writer writes 127"
+unfoldable pub sent : Remembered → List ℕ → List ℕ
+sent kept w = w
+
+-- w from at on in so much room: all of it, or 7
+unfoldable pub writeAt : List ℕ → ℕ → ℕ → Answer ℕ
+writeAt w room at = pick (leb (at + length w) room) (done (at + length w)) (refused 7 0)
+
+-- the lent bytes after an answer: w stands in them from at on and the rest is as it was, or nothing has changed
+unfoldable pub afterWrite : Answer ℕ → List ℕ → List ℕ → ℕ → List ℕ
+afterWrite (done n) w l at = sets l at w
+afterWrite (refused e p) w l at = l

@@ -1,0 +1,93 @@
+// A parameter's bytes on the wire: the one place where they are taken, and the one place where they are sent.
+ghost use mathlib.Core.Path.{_≡_};
+ghost use Prim.Native.Nat.{_<_};
+ghost use lib.ListN.{length};
+ghost use Rattle.wire.specs.Taking.{byteAt, pairAt, byteOf};
+ghost use Rattle.wire.specs.Sending.{sent, writeAt, afterWrite, writtenOf};
+use memory::Remembered;
+use refusals::Refusal;
+
+pub enum ByteRead {
+    // the byte, its place, and where reading goes on
+    Byte(u8, usize, usize),
+    // the refusal and its place
+    NoByte(Refusal, usize),
+}
+
+pub enum Written {
+    // where the next byte goes
+    Next(usize),
+    NotWritten(Refusal),
+}
+
+// A parameter's bytes before they are sent. A point has the most, five.
+pub struct Spelling {
+    pub bytes: [u8; 5],
+    pub len: usize,
+}
+
+// What stands after the ESC at `at`.
+fn pair(s: &[u8], at: usize) -> ByteRead
+    requires { ⌜ at < length (now s) ⌝ }
+    ensures { λ r. ⌜ byteOf r ≡ pairAt (now (s .entry)) at ⌝ }
+{
+    let place = at + 1;
+    if place >= s.len() {
+        return ByteRead::NoByte(Refusal::BytesEnd, s.len());
+    }
+    if s[place] == 63 {
+        let next = at + 2;
+        return ByteRead::Byte(127, place, next);
+    }
+    ByteRead::NoByte(Refusal::NewEscape, at)
+}
+
+// The next byte of a parameter. Reading goes by what is remembered; today nothing in it changes how a byte is taken.
+pub fn take(kept: Remembered, s: &[u8], at: usize) -> ByteRead
+    ensures { λ r. ⌜ byteOf r ≡ byteAt kept (now (s .entry)) at ⌝ }
+{
+    if at >= s.len() {
+        return ByteRead::NoByte(Refusal::BytesEnd, s.len());
+    }
+    let b = s[at];
+    if b == 27 {
+        return pair(s, at);
+    }
+    if b < 32 {
+        return ByteRead::NoByte(Refusal::ByteNotAllowed, at);
+    }
+    if b > 127 {
+        return ByteRead::NoByte(Refusal::ByteNotAllowed, at);
+    }
+    let next = at + 1;
+    ByteRead::Byte(b, at, next)
+}
+
+// The bytes `w` into `out` from `at` on: all of them, or 7 and none.
+pub fn lay(w: &[u8], out: &mut [u8], at: usize) -> Written
+    ensures { λ r. ⌜ (writtenOf r ≡ writeAt (now (w .entry)) (length (now (out .entry))) at) × (now (out .exit) ≡ afterWrite (writtenOf r) (now (w .entry)) (now (out .entry)) at) ⌝ }
+{
+    let room = out.len();
+    let size = w.len();
+    if at > room {
+        return Written::NotWritten(Refusal::TooShort);
+    }
+    if size > room - at {
+        return Written::NotWritten(Refusal::TooShort);
+    }
+    let mut i = 0;
+    while i < size {
+        let to = at + i;
+        out[to] = w[i];
+        i = i + 1;
+    }
+    let next = at + size;
+    Written::Next(next)
+}
+
+// A parameter's bytes, as they are sent, into `out` from `at` on.
+pub fn send(kept: Remembered, w: &[u8], out: &mut [u8], at: usize) -> Written
+    ensures { λ r. ⌜ (writtenOf r ≡ writeAt (sent kept (now (w .entry))) (length (now (out .entry))) at) × (now (out .exit) ≡ afterWrite (writtenOf r) (sent kept (now (w .entry))) (now (out .entry)) at) ⌝ }
+{
+    lay(w, out, at)
+}
