@@ -1,5 +1,6 @@
 -- Bytes that are written.
-use Prim.Native.Nat.{ℕ, _+_}
+use Prim.Native.Nat.{ℕ, _+_, _≤_}
+use mathlib.Core.Path.{_≡_}
 use mathlib.Core.List.{List}
 use lib.ListN.{length, take}
 use lib.Seq.{sets}
@@ -16,9 +17,10 @@ unfoldable pub writtenOf : Written → Answer ℕ
 writtenOf (Next n) = done n
 writtenOf (NotWritten e) = refused (numberOf e) 0
 
--- the bytes of a spelling
-abbrev pub spelled : Spelling → List ℕ
-spelled w = take (w .len) (w .bytes)
+-- the spelling r holds just the bytes w
+pub record Spells (w : List ℕ) (r : Spelling) : Type 0 where
+  pub same : take (r .len) (r .bytes) ≡ w
+  pub within : r .len ≤ length (r .bytes)
 
 -- a parameter's bytes as they are sent: each as itself, "the writer writes 127"
 unfoldable pub sent : Remembered → List ℕ → List ℕ

@@ -1,0 +1,4 @@
+pub mod Signs
+pub mod Reading
+pub mod Spelling
+pub mod Writing

@@ -1,0 +1,103 @@
+-- One step of reading an integer or a count, as the code takes it: what the callee gave, and what stands for the rest.
+use Prim.Native.Nat.{ℕ, zero, suc, _+_, _*_, _%_, _≤_, _<_}
+use mathlib.Core.Path.{_≡_, refl, sym, _∙_, ap}
+use mathlib.Core.Bool.{Bool, true, false}
+use mathlib.Core.List.{List}
+use native.Mathlib.Omega.{arith}
+use borrow.Author.Tests.{lt-ltb, le-ltb, le-leb, lt-leb}
+use lib.IntN.{ℤ, natAbs}
+use mir.Syntax.{w32}
+use mir.Val.{SFits, toZ, ofZ}
+use mir.Facts.{toZ-ofZ}
+use Rattle.memory.specs.declared.Remembered.{Remembered}
+use Rattle.refusals.specs.declared.Refusal.{Refusal}
+use Rattle.refusals.specs.declared.Refusal.the-variants.{IntegerOutside, CountOutside}
+use Rattle.refusals.specs.Answers.{Answer, Read}
+use Rattle.wire.specs.declared.ByteRead.{ByteRead}
+use Rattle.wire.specs.declared.ByteRead.the-variants.{Byte, NoByte}
+use Rattle.wire.specs.Taking.{byteAt, byteOf}
+use Rattle.numbers.specs.declared.IntegerRead.{IntegerRead}
+use Rattle.numbers.specs.declared.IntegerRead.the-variants.{Integer, NoInteger}
+use Rattle.numbers.specs.declared.CountRead.the-variants.{Count, NoCount}
+use Rattle.numbers.specs.Integers.{integerOf, integerFrom, integerAt, lowByte, signedOf, isNegative, limit}
+use Rattle.numbers.specs.Counts.{countAt, countOf}
+
+-- ---- the low byte
+
+module _ (h b p n : ℕ) where
+  pub low-minus : {x : ℤ} → b < 48 → h * 16 + b % 16 ≤ 32768 → x ≡ signedOf (h * 16 + b % 16) true → integerOf (Integer x p n) ≡ lowByte h b p n
+  unfolding integerOf
+  low-minus l r e = rw (e, lt-ltb b 48 l, le-leb (h * 16 + b % 16) 32768 r)
+
+  pub low-plus : {x : ℤ} → 48 ≤ b → h * 16 + b % 16 ≤ 32767 → x ≡ signedOf (h * 16 + b % 16) false → integerOf (Integer x p n) ≡ lowByte h b p n
+  unfolding integerOf
+  low-plus l r e = rw (e, le-ltb b 48 l, le-leb (h * 16 + b % 16) 32767 r)
+
+  pub low-under : b < 48 → 32768 < h * 16 + b % 16 → integerOf (NoInteger IntegerOutside p) ≡ lowByte h b p n
+  unfolding integerOf
+  low-under l r = rw (lt-ltb b 48 l, lt-leb (h * 16 + b % 16) 32768 r)
+
+  pub low-over : 48 ≤ b → 32767 < h * 16 + b % 16 → integerOf (NoInteger IntegerOutside p) ≡ lowByte h b p n
+  unfolding integerOf
+  low-over l r = rw (le-ltb b 48 l, lt-leb (h * 16 + b % 16) 32767 r)
+
+pub ruleset lows = (low-minus, low-plus, low-under, low-over)
+
+-- ---- one byte of an integer
+
+module _ (kept : Remembered) (s : List ℕ) (at : ℕ) {r : ByteRead} (e : byteOf r ≡ byteAt kept s at) where
+  pub low-step : (k h : ℕ) {b p n : ℕ} {q : Answer (Read ℤ)} → r ≡ Byte b p n → b < 64 → q ≡ lowByte h b p n → q ≡ integerFrom kept k h s at
+  unfolding integerFrom byteOf
+  low-step zero h {b = b} g l j = rw (← e, g, lt-ltb b 64 l) j
+  low-step (suc k) h {b = b} g l j = rw (← e, g, lt-ltb b 64 l) j
+
+  pub high-step : (k h : ℕ) {b p n : ℕ} {q : Answer (Read ℤ)} → r ≡ Byte b p n → 64 ≤ b → q ≡ integerFrom kept k (h * 64 + b % 64) s n → q ≡ integerFrom kept (suc k) h s at
+  unfolding integerFrom byteOf
+  high-step k h {b = b} g l j = rw (← e, g, le-ltb b 64 l) j
+
+  -- at the numerals that the contracts name
+  pub second-step : (h : ℕ) {b p n : ℕ} {q : Answer (Read ℤ)} → r ≡ Byte b p n → 64 ≤ b → q ≡ integerFrom kept 0 (h * 64 + b % 64) s n → q ≡ integerFrom kept 1 h s at
+  second-step h = high-step 0 h
+
+  pub first-step : {b p n : ℕ} {q : Answer (Read ℤ)} → r ≡ Byte b p n → 64 ≤ b → q ≡ integerFrom kept 1 (b % 64) s n → q ≡ integerFrom kept 2 0 s at
+  first-step {n = n} g l j = high-step 1 0 g l (j ∙ ap (λ (h : ℕ). integerFrom kept 1 h s n) (omega arith))
+
+  pub third-step : (h : ℕ) {b p n : ℕ} → r ≡ Byte b p n → 64 ≤ b → integerOf (NoInteger IntegerOutside p) ≡ integerFrom kept 0 h s at
+  unfolding integerFrom byteOf integerOf
+  third-step h {b = b} g l = rw (← e, g, le-ltb b 64 l)
+
+  pub no-step : (k h : ℕ) {x : Refusal} {p : ℕ} → r ≡ NoByte x p → integerOf (NoInteger x p) ≡ integerFrom kept k h s at
+  unfolding integerFrom byteOf integerOf
+  no-step zero h g = rw (← e, g)
+  no-step (suc k) h g = rw (← e, g)
+
+pub ruleset steps = (low-step, second-step, first-step, third-step, no-step)
+
+-- ---- a count
+
+module _ (kept : Remembered) (s : List ℕ) (at : ℕ) {r : IntegerRead} (e : integerOf r ≡ integerAt kept s at) where
+  pub count-no : {x : Refusal} {p : ℕ} → r ≡ NoInteger x p → countOf (NoCount x p) ≡ countAt kept s at
+  unfolding countAt countOf integerOf
+  count-no g = rw (← e, g)
+
+  module _ {v : ℤ} {p n : ℕ} {b : Bool} (g : r ≡ Integer v p n) (f : SFits w32 v) (eb : b ≡ isNegative (toZ w32 (ofZ w32 v))) where
+    sign : {t : Bool} → b ≡ t → isNegative v ≡ t
+    sign q = sym (rw (toZ-ofZ f) at eb) ∙ q
+
+    pub count-minus : b ≡ true → countOf (NoCount CountOutside p) ≡ countAt kept s at
+    unfolding countAt countOf integerOf
+    count-minus t = rw (← e, g, sign t)
+
+    module _ {m : ℕ} (t : b ≡ false) (em : m ≡ natAbs (toZ w32 (ofZ w32 v))) where
+      size : m ≡ natAbs v
+      size = rw (toZ-ofZ f) at em
+
+      pub count-is : m ≤ 256 → countOf (Count m p n) ≡ countAt kept s at
+      unfolding countAt countOf integerOf
+      count-is h = rw (← e, g, sign t, ← size, le-leb m 256 h)
+
+      pub count-over : 256 < m → countOf (NoCount CountOutside p) ≡ countAt kept s at
+      unfolding countAt countOf integerOf
+      count-over h = rw (← e, g, sign t, ← size, lt-leb m 256 h)
+
+pub ruleset counts = (count-no, count-minus, count-is, count-over)

@@ -1,0 +1,54 @@
+use lib.Seq.{length-take-le}
+use Rattle.numbers.proofs.Writing.{writings}
+use borrow.Author.Needs.{needs}
+use Rattle.numbers.proofs.write_count.Statement.{statement}
+use Rattle.numbers.proofs.write_count.Tie as tie
+use Rattle.numbers.proofs.write_count.Reads as reads
+use Rattle.numbers.proofs.write_count.Lts as lts
+use Rattle.numbers.proofs.spell_integer.Reads as spell-integer-reads
+use Rattle.wire.proofs.send.Reads as send-reads
+
+-- src/lib.rt:212:9
+returns : tie.Need-returns
+returns c = search (needs, writings)
+
+-- src/lib.rt:214:15
+cast-mag : tie.Need-cast-mag
+cast-mag c = search needs
+
+-- src/lib.rt:215:9
+spell-integer-requires : tie.Need-spell-integer-requires
+spell-integer-requires c κs = search needs
+
+-- src/lib.rt:218:22
+array-share-prefix-bytes : tie.Need-array-share-prefix-bytes
+array-share-prefix-bytes c = search (needs, writings)
+
+-- src/lib.rt:218:22
+slice-aggregate-send : tie.Need-slice-aggregate-send
+slice-aggregate-send c = search (needs, length-take-le)
+
+-- src/lib.rt:218:5
+send-requires : tie.Need-send-requires
+send-requires c κs = search needs
+
+-- src/lib.rt:208:1
+same-length : tie.Need-same-length
+same-length c = search needs
+
+-- src/lib.rt:208:1
+returns-2 : tie.Need-returns-2
+returns-2 c = search (needs, writings)
+
+pub write-count-spec : {M : Type 1} → statement M
+write-count-spec =
+    tie.close
+    (tie.spec
+    returns
+    cast-mag
+    spell-integer-requires
+    array-share-prefix-bytes
+    slice-aggregate-send
+    send-requires
+    same-length
+    returns-2)

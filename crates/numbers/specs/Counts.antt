@@ -1,0 +1,37 @@
+-- "A count is an integer 0..256."
+use Prim.Native.Nat.{ℕ}
+use mathlib.Core.List.{List}
+use lib.Dec.{leb}
+use lib.IntN.{ℤ, pos, natAbs}
+use Rattle.memory.specs.declared.Remembered.{Remembered}
+use Rattle.refusals.specs.Refusals.{numberOf}
+use Rattle.refusals.specs.Answers.{Answer, done, refused, Read, then, pick}
+use Rattle.wire.specs.Sending.{sent, writeAt}
+use Rattle.numbers.specs.Integers.{integerAt, isNegative, spell}
+use Rattle.numbers.specs.declared.CountRead.{CountRead}
+use Rattle.numbers.specs.declared.CountRead.the-variants.{Count, NoCount}
+
+-- what the answer says
+unfoldable pub countOf : CountRead → Answer (Read ℕ)
+countOf (Count c p n) = done (record { value = c; place = p; next = n })
+countOf (NoCount e p) = refused (numberOf e) p
+
+-- the most entries of a string or an array
+abbrev pub mostEntries : ℕ
+mostEntries = 256
+
+-- "count negative or above 256 (place: its low byte)"
+abbrev pub asCount : Read ℤ → Answer (Read ℕ)
+asCount i =
+    pick (isNegative (i .value))
+    (refused 5 (i .place))
+    (pick (leb (natAbs (i .value)) mostEntries)
+    (done (record { value = natAbs (i .value); place = i .place; next = i .next }))
+    (refused 5 (i .place)))
+
+-- "at one byte, 4 before 5"
+unfoldable pub countAt : Remembered → List ℕ → ℕ → Answer (Read ℕ)
+countAt kept s at = then (integerAt kept s at) asCount
+
+unfoldable pub writeCount : Remembered → ℕ → ℕ → ℕ → Answer ℕ
+writeCount kept n room at = pick (leb n mostEntries) (writeAt (sent kept (spell (pos n))) room at) (refused 8 0)

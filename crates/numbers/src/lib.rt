@@ -1,0 +1,219 @@
+// Integers and counts of the host syntax: read from any place of any bytes, and written in their shortest spelling.
+ghost use mathlib.Core.Path.{_≡_};
+ghost use Prim.Native.Nat.{_<_, _≤_};
+ghost use lib.ListN.{length};
+ghost use lib.IntN.{natAbs, pos};
+ghost use Rattle.wire.specs.Sending.{sent, afterWrite, writtenOf, Spells};
+ghost use Rattle.numbers.specs.Integers.{signedOf, isNegative, limit, lowByte, integerFrom, integerAt, integerOf, lowOf, spellOf, spell, writeInteger};
+ghost use Rattle.numbers.specs.Counts.{countAt, countOf, writeCount};
+use memory::Remembered;
+use refusals::Refusal;
+use wire::ByteRead;
+use wire::Spelling;
+use wire::Written;
+
+// "A count is an integer 0..256."
+const MOST_ENTRIES: usize = 256;
+
+pub enum IntegerRead {
+    // the value, the place of its low byte, and where reading goes on
+    Integer(i32, usize, usize),
+    // the refusal and its place
+    NoInteger(Refusal, usize),
+}
+
+pub enum CountRead {
+    // the count, the place of its low byte, and where reading goes on
+    Count(usize, usize, usize),
+    // the refusal and its place
+    NoCount(Refusal, usize),
+}
+
+// The number of a magnitude and a sign. Any magnitude of 16 bits has room, so nothing is negated in 16 bits.
+pub fn signed(mag: u16, negative: bool) -> i32
+    ensures { λ r. ⌜ r ≡ signedOf mag negative ⌝ }
+{
+    let m = mag as i32;
+    if negative {
+        return 0 - m;
+    }
+    m
+}
+
+// The magnitude of any number, the least one too.
+pub fn magnitude(v: i32) -> u32
+    ensures { λ r. ⌜ r ≡ natAbs v ⌝ }
+{
+    if v < 0 {
+        let n = v + 1;
+        let m = 0 - n;
+        return m as u32 + 1;
+    }
+    v as u32
+}
+
+pub fn is_negative(v: i32) -> bool
+    ensures { λ r. ⌜ r ≡ isNegative v ⌝ }
+{
+    v < 0
+}
+
+// The largest magnitude of a negative integer, and of another.
+fn limit_of(negative: bool) -> u32
+    ensures { λ r. ⌜ r ≡ limit negative ⌝ }
+{
+    if negative {
+        return 32768;
+    }
+    32767
+}
+
+// The low byte `low` after high bytes of value `high`.
+fn low_byte(high: u16, low: u8, place: usize, next: usize) -> IntegerRead
+    requires { ⌜ high < 4096 ⌝ }
+    ensures { λ r. ⌜ integerOf r ≡ lowByte high low place next ⌝ }
+{
+    let mag = high * 16 + (low % 16) as u16;
+    if low < 48 {
+        if mag <= 32768 {
+            return IntegerRead::Integer(signed(mag, true), place, next);
+        }
+        return IntegerRead::NoInteger(Refusal::IntegerOutside, place);
+    }
+    if mag <= 32767 {
+        return IntegerRead::Integer(signed(mag, false), place, next);
+    }
+    IntegerRead::NoInteger(Refusal::IntegerOutside, place)
+}
+
+// The low byte, where two high bytes of value `high` stand before it.
+fn after_two(kept: Remembered, s: &[u8], at: usize, high: u16) -> IntegerRead
+    requires { ⌜ high < 4096 ⌝ }
+    ensures { λ r. ⌜ integerOf r ≡ integerFrom kept 0 high (now (s .entry)) at ⌝ }
+{
+    match wire::take(kept, s, at) {
+        ByteRead::Byte(b, p, n) => {
+            if b < 64 {
+                return low_byte(high, b, p, n);
+            }
+            IntegerRead::NoInteger(Refusal::IntegerOutside, p)
+        }
+        ByteRead::NoByte(e, p) => IntegerRead::NoInteger(e, p),
+    }
+}
+
+// The rest of an integer, where one high byte of value `high` stands before it.
+fn after_one(kept: Remembered, s: &[u8], at: usize, high: u16) -> IntegerRead
+    requires { ⌜ high < 64 ⌝ }
+    ensures { λ r. ⌜ integerOf r ≡ integerFrom kept 1 high (now (s .entry)) at ⌝ }
+{
+    match wire::take(kept, s, at) {
+        ByteRead::Byte(b, p, n) => {
+            if b < 64 {
+                return low_byte(high, b, p, n);
+            }
+            let higher = high * 64 + (b % 64) as u16;
+            after_two(kept, s, n, higher)
+        }
+        ByteRead::NoByte(e, p) => IntegerRead::NoInteger(e, p),
+    }
+}
+
+pub fn read_integer(kept: Remembered, s: &[u8], at: usize) -> IntegerRead
+    ensures { λ r. ⌜ integerOf r ≡ integerAt kept (now (s .entry)) at ⌝ }
+{
+    match wire::take(kept, s, at) {
+        ByteRead::Byte(b, p, n) => {
+            if b < 64 {
+                return low_byte(0, b, p, n);
+            }
+            let high = (b % 64) as u16;
+            after_one(kept, s, n, high)
+        }
+        ByteRead::NoByte(e, p) => IntegerRead::NoInteger(e, p),
+    }
+}
+
+pub fn read_count(kept: Remembered, s: &[u8], at: usize) -> CountRead
+    ensures { λ r. ⌜ countOf r ≡ countAt kept (now (s .entry)) at ⌝ }
+{
+    match read_integer(kept, s, at) {
+        IntegerRead::Integer(v, p, n) => {
+            if is_negative(v) {
+                return CountRead::NoCount(Refusal::CountOutside, p);
+            }
+            let m = magnitude(v) as usize;
+            if m <= MOST_ENTRIES {
+                return CountRead::Count(m, p, n);
+            }
+            CountRead::NoCount(Refusal::CountOutside, p)
+        }
+        IntegerRead::NoInteger(e, p) => CountRead::NoCount(e, p),
+    }
+}
+
+// The low byte of a magnitude and a sign.
+pub fn low_of(mag: u32, negative: bool) -> u8
+    ensures { λ r. ⌜ r ≡ lowOf mag negative ⌝ }
+{
+    if negative {
+        return 32 + (mag % 16) as u8;
+    }
+    48 + (mag % 16) as u8
+}
+
+// The bytes of an integer, no high byte of value 0 in front.
+fn spell_integer(mag: u32, negative: bool) -> Spelling
+    requires { ⌜ mag ≤ 32768 ⌝ }
+    ensures { λ r. ⌜ Spells (spellOf mag negative) r ⌝ }
+{
+    let low = low_of(mag, negative);
+    let high = mag / 16;
+    if high == 0 {
+        return Spelling {
+            bytes: [low, 0, 0, 0, 0],
+            len: 1,
+        };
+    }
+    let last = 64 + (high % 64) as u8;
+    if high < 64 {
+        return Spelling {
+            bytes: [last, low, 0, 0, 0],
+            len: 2,
+        };
+    }
+    let first = 64 + (high / 64) as u8;
+    Spelling {
+        bytes: [first, last, low, 0, 0],
+        len: 3,
+    }
+}
+
+// 8 for a value outside -32768..32767, then 7.
+pub fn write_integer(kept: Remembered, v: i32, out: &mut [u8], at: usize) -> Written
+    ensures { λ r. ⌜ (writtenOf r ≡ writeInteger kept v (length (now (out .entry))) at) × (now (out .exit) ≡ afterWrite (writtenOf r) (sent kept (spell v)) (now (out .entry)) at) ⌝ }
+{
+    let negative = is_negative(v);
+    let mag = magnitude(v);
+    if mag > limit_of(negative) {
+        return Written::NotWritten(Refusal::NotValid);
+    }
+    let w = spell_integer(mag, negative);
+    let bytes = w.bytes;
+    let len = w.len;
+    wire::send(kept, &bytes[..len], out, at)
+}
+
+// 8 for a count above 256, then 7.
+pub fn write_count(kept: Remembered, n: usize, out: &mut [u8], at: usize) -> Written
+    ensures { λ r. ⌜ (writtenOf r ≡ writeCount kept n (length (now (out .entry))) at) × (now (out .exit) ≡ afterWrite (writtenOf r) (sent kept (spell (pos n))) (now (out .entry)) at) ⌝ }
+{
+    if n > MOST_ENTRIES {
+        return Written::NotWritten(Refusal::NotValid);
+    }
+    let mag = n as u32;
+    let w = spell_integer(mag, false);
+    let bytes = w.bytes;
+    let len = w.len;
+    wire::send(kept, &bytes[..len], out, at)
+}

@@ -1,0 +1,50 @@
+//! The second program: written from the rules alone, to be compared with the proved one.
+
+mod answers;
+mod blocks;
+mod digest;
+mod integers;
+mod parameters;
+mod points;
+mod ranges;
+mod reports;
+mod spellings;
+mod table;
+mod values;
+mod vectors;
+
+use std::env;
+use std::error::Error;
+use std::process::ExitCode;
+
+const COMMANDS: &str = "\
+commands:
+  second vectors < table    run all blocks of docs/VECTORS.md and print their lines";
+
+const FAILED: u8 = 1;
+const NOT_A_COMMAND: u8 = 2;
+
+fn main() -> ExitCode {
+    let arguments: Vec<String> = env::args_os()
+        .skip(1)
+        .map(|argument| argument.to_string_lossy().into_owned())
+        .collect();
+    let arguments: Vec<&str> = arguments.iter().map(String::as_str).collect();
+    match arguments.as_slice() {
+        ["vectors"] => status_of(vectors::run()),
+        _ => {
+            eprintln!("{COMMANDS}");
+            ExitCode::from(NOT_A_COMMAND)
+        }
+    }
+}
+
+fn status_of(outcome: Result<(), Box<dyn Error>>) -> ExitCode {
+    match outcome {
+        Ok(()) => ExitCode::SUCCESS,
+        Err(error) => {
+            eprintln!("second: {error}");
+            ExitCode::from(FAILED)
+        }
+    }
+}
