@@ -1,4 +1,4 @@
-//! The second program: written from the rules alone, to be compared with the proved one.
+//! The second program: it follows the rules of document 01 with no code of the proved crates, so that the two can be compared.
 
 mod answers;
 mod blocks;

@@ -1,0 +1,3 @@
+pub mod Masks
+pub mod Stepping
+pub mod Spelling

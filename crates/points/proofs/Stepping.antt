@@ -1,0 +1,95 @@
+-- One byte of a point, as the code takes it: by its kind, whatever the state.
+use Prim.Native.Nat.{ℕ, _+_, _*_, _/_, _%_, _≤_, _<_}
+use mathlib.Core.Path.{_≡_, refl, sym, _∙_, ap}
+use mathlib.Core.Bool.{Bool, true, false, _&&_}
+use mathlib.Core.List.{List}
+use native.Mathlib.Omega.{arith}
+use borrow.Author.Tests.{lt-ltb, le-ltb, leb-true}
+use lib.Dec.{leb}
+use Rattle.memory.specs.declared.Point.{Point}
+use Rattle.memory.specs.declared.Remembered.{Remembered}
+use Rattle.memory.specs.Memory.{inside}
+use Rattle.refusals.specs.declared.Refusal.{Refusal}
+use Rattle.refusals.specs.declared.Refusal.the-variants.{ByteNotAllowed, NotValid}
+use Rattle.refusals.specs.Answers.{Answer, Read, refused}
+use Rattle.wire.specs.declared.ByteRead.{ByteRead}
+use Rattle.wire.specs.declared.ByteRead.the-variants.{Byte, NoByte}
+use Rattle.wire.specs.Taking.{byteAt, byteOf}
+use Rattle.points.specs.declared.PointRead.the-variants.{At, NoPoint}
+use Rattle.points.specs.declared.PointBytes.{PointBytes}
+use Rattle.points.specs.Layout.{Inside, bytesOf, coordinates}
+use Rattle.points.specs.Reading.{byKind, endsAt, withLoX, pointOf, pointFrom, pointAt}
+
+module _ (kept : Remembered) (s : List ℕ) (at : ℕ) {r : ByteRead} (e : byteOf r ≡ byteAt kept s at) (hi lo upper : Read ℕ → Answer (Read Point)) where
+  module _ {v p n : ℕ} (g : r ≡ Byte v p n) {q : Answer (Read Point)} where
+    pub kind-hi : v < 64 → q ≡ hi (record { value = v; place = p; next = n }) → q ≡ byKind kept s at hi lo upper
+    unfolding byKind byteOf
+    kind-hi l j = rw (← e, g, lt-ltb v 64 l) j
+
+    pub kind-lo : 64 ≤ v → v < 96 → q ≡ lo (record { value = v; place = p; next = n }) → q ≡ byKind kept s at hi lo upper
+    unfolding byKind byteOf
+    kind-lo l m j = rw (← e, g, le-ltb v 64 l, lt-ltb v 96 m) j
+
+    pub kind-upper : 64 ≤ v → 96 ≤ v → q ≡ upper (record { value = v; place = p; next = n }) → q ≡ byKind kept s at hi lo upper
+    unfolding byKind byteOf
+    kind-upper l m j = rw (← e, g, le-ltb v 64 l, le-ltb v 96 m) j
+
+  pub kind-none : {x : Refusal} {p : ℕ} → r ≡ NoByte x p → pointOf (NoPoint x p) ≡ byKind kept s at hi lo upper
+  unfolding byKind byteOf pointOf
+  kind-none g = rw (← e, g)
+
+pub not-allowed : (p : ℕ) → pointOf (NoPoint ByteNotAllowed p) ≡ refused 3 p
+unfolding pointOf
+not-allowed p = refl
+
+pub ruleset kinds = (kind-hi, kind-lo, kind-upper, kind-none, not-allowed)
+
+-- ---- the bytes of a point, and the point of its bytes
+
+pub laid-out : (p : Point) {a b d e : ℕ} → a ≡ p .y % 4 → b ≡ p .x % 4 → d ≡ p .y / 4 % 32 → e ≡ p .x / 4 % 32 → record { hiy = 32 + p .y / 128; extra = 96 + a * 4 % 256 + b; loy = 96 + d; hix = 32 + p .x / 128; lox = 64 + e } ≡ bytesOf p
+laid-out p {a = a} ea eb ed ee =
+    let z : a * 4 % 256 ≡ p .y % 4 * 4 = omega arith in
+    rw (z, eb, ed, ee)
+
+pub made-of : (b : PointBytes) {x y : ℕ} → x ≡ b .hix % 32 * 128 + b .lox % 32 * 4 + b .extra % 4 → y ≡ b .hiy % 32 * 128 + b .loy % 32 * 4 + b .extra / 4 % 4 → record { x = x; y = y } ≡ coordinates b
+made-of b ex ey = rw (ex, ey)
+
+-- ---- the last byte, and the remembered point
+
+pub ending : (b : PointBytes) (v p n : ℕ) {x : Point} → x ≡ coordinates (withLoX b v) → pointOf (At x p n) ≡ endsAt b v p n
+unfolding pointOf endsAt
+ending b v p n e = rw e
+
+and-left : (a b : Bool) → a && b ≡ true → a ≡ true
+and-left true b e = refl
+and-left false b e = e
+
+and-right : (a b : Bool) → a && b ≡ true → b ≡ true
+and-right true b e = e
+and-right false b e = let z : true ≡ false = sym e in cc
+
+pub insides : (p : Point) → inside p ≡ true → Inside p
+insides p e = record {
+  x-inside = leb-true (p .x) 4095 (and-left (leb (p .x) 4095) (leb (p .y) 4095) e);
+  y-inside = leb-true (p .y) 4095 (and-right (leb (p .x) 4095) (leb (p .y) 4095) e);
+}
+
+pub tested : (p : Point) {t : Bool} → t ≡ inside p → t ≡ true → Inside p
+tested p e t = insides p (sym e ∙ t)
+
+pub tested-first : (p : Point) (a b : Bool) {t : Bool} → a ≡ inside p → t ≡ a && b → t ≡ true → Inside p
+tested-first p a b e f t = insides p (sym e ∙ and-left a b (sym f ∙ t))
+
+pub tested-second : (p : Point) (a b : Bool) {t : Bool} → b ≡ inside p → t ≡ a && b → t ≡ true → Inside p
+tested-second p a b e f t = insides p (sym e ∙ and-right a b (sym f ∙ t))
+
+module _ (kept : Remembered) (s : List ℕ) (at : ℕ) {t : Bool} (e : t ≡ inside (kept .point)) where
+  pub from-last : {b : PointBytes} {q : Answer (Read Point)} → t ≡ true → b ≡ bytesOf (kept .point) → q ≡ pointFrom kept b s at → q ≡ pointAt kept s at
+  unfolding pointAt
+  from-last g k j = rw (← e, g, ← k) j
+
+  pub last-outside : t ≡ false → pointOf (NoPoint NotValid 0) ≡ pointAt kept s at
+  unfolding pointAt pointOf
+  last-outside g = rw (← e, g)
+
+pub ruleset starts = (tested, from-last, last-outside)

@@ -1,0 +1,32 @@
+-- "The writer leaves out all that it may."
+use Prim.Native.Nat.{ℕ}
+use mathlib.Core.Bool.{Bool, _&&_}
+use mathlib.Core.List.{List, [], _∷_, _++_}
+use lib.Dec.{eqb}
+use Rattle.memory.specs.declared.Point.{Point}
+use Rattle.memory.specs.declared.Remembered.{Remembered}
+use Rattle.memory.specs.Memory.{inside}
+use Rattle.refusals.specs.Answers.{Answer, refused, pick}
+use Rattle.wire.specs.Sending.{sent, writeAt}
+use Rattle.points.specs.declared.PointBytes.{PointBytes}
+use Rattle.points.specs.Layout.{bytesOf}
+
+abbrev pub part : Bool → ℕ → List ℕ
+part leftOut b = pick leftOut [] (b ∷ [])
+
+-- LoY may be left out only with Extra and HiX: "Extra needs LoY after it, and HiX needs LoY before it"
+unfoldable pub spellBytes : (last this : PointBytes) → List ℕ
+spellBytes a b =
+    part (eqb (a .hiy) (b .hiy)) (b .hiy)
+    ++ part (eqb (a .extra) (b .extra)) (b .extra)
+    ++ part (eqb (a .loy) (b .loy) && (eqb (a .extra) (b .extra) && eqb (a .hix) (b .hix))) (b .loy)
+    ++ part (eqb (a .hix) (b .hix)) (b .hix)
+    ++ (b .lox ∷ [])
+
+abbrev pub spellPoint : (last this : Point) → List ℕ
+spellPoint last this = spellBytes (bytesOf last) (bytesOf this)
+
+-- "8 for .. a value or remembered point outside its range .. then 7"
+unfoldable pub writePoint : Remembered → Point → ℕ → ℕ → Answer ℕ
+writePoint kept p room at =
+    pick (inside (kept .point) && inside p) (writeAt (sent kept (spellPoint (kept .point) p)) room at) (refused 8 0)

@@ -1,0 +1,280 @@
+// The packed point: read from a remembered point with all that may be left out, and written with all of that left out.
+ghost use mathlib.Core.Path.{_≡_};
+ghost use mathlib.Core.Bool.{_&&_};
+ghost use mathlib.Core.List.{_++_};
+ghost use Prim.Native.Nat.{_<_, _≤_, _+_, _*_, _/_, _%_};
+ghost use lib.ListN.{length, take};
+ghost use Rattle.wire.specs.Sending.{sent, afterWrite, writtenOf, Spells};
+ghost use Rattle.points.specs.Layout.{Inside, bytesOf, coordinates};
+ghost use Rattle.points.specs.Reading.{pointOf, endsAt, lastAt, afterLoY, afterUpper, afterHiY, pointFrom, pointAt};
+ghost use Rattle.points.specs.Writing.{part, spellBytes, spellPoint, writePoint};
+use memory::Point;
+use memory::Remembered;
+use refusals::Refusal;
+use wire::ByteRead;
+use wire::Spelling;
+use wire::Written;
+
+pub enum PointRead {
+    // the point, the place of its LoX, and where reading goes on
+    At(Point, usize, usize),
+    // the refusal and its place
+    NoPoint(Refusal, usize),
+}
+
+// The bytes of a point, in the order in which they are sent.
+pub struct PointBytes {
+    pub hiy: u8,
+    pub extra: u8,
+    pub loy: u8,
+    pub hix: u8,
+    pub lox: u8,
+}
+
+// ---- fields of a coordinate
+
+fn five_bits(b: u8) -> u16
+    ensures { λ r. ⌜ r ≡ b % 32 ⌝ }
+{
+    (b & 31) as u16
+}
+
+fn two_bits(b: u8) -> u16
+    ensures { λ r. ⌜ r ≡ b % 4 ⌝ }
+{
+    (b & 3) as u16
+}
+
+// The five bits above the lowest two.
+fn middle(v: u16) -> u8
+    ensures { λ r. ⌜ r ≡ v / 4 % 32 ⌝ }
+{
+    (v >> 2 & 31) as u8
+}
+
+fn lowest(v: u16) -> u8
+    ensures { λ r. ⌜ r ≡ v % 4 ⌝ }
+{
+    (v & 3) as u8
+}
+
+// A coordinate of its high, its low and its lowest bits.
+fn coordinate(hi: u8, lo: u8, rest: u8) -> u16
+    ensures { λ r. ⌜ r ≡ hi % 32 * 128 + lo % 32 * 4 + rest % 4 ⌝ }
+{
+    let high = five_bits(hi) << 7;
+    let low = five_bits(lo) << 2;
+    let sum = high + low;
+    sum + two_bits(rest)
+}
+
+fn bytes_of(p: Point) -> PointBytes
+    requires { ⌜ Inside p ⌝ }
+    ensures { λ r. ⌜ r ≡ bytesOf p ⌝ }
+{
+    let x = p.x;
+    let y = p.y;
+    let hiy = 32 + (y >> 7) as u8;
+    let of_y = lowest(y) << 2;
+    let extra = 96 + of_y + lowest(x);
+    let loy = 96 + middle(y);
+    let hix = 32 + (x >> 7) as u8;
+    let lox = 64 + middle(x);
+    PointBytes {
+        hiy: hiy,
+        extra: extra,
+        loy: loy,
+        hix: hix,
+        lox: lox,
+    }
+}
+
+// The point of five bytes. The 16 bit of Extra is not looked at.
+fn point_of(b: PointBytes) -> Point
+    ensures { λ r. ⌜ r ≡ coordinates b ⌝ }
+{
+    let x = coordinate(b.hix, b.lox, b.extra);
+    let y = coordinate(b.hiy, b.loy, b.extra >> 2);
+    Point { x: x, y: y }
+}
+
+// ---- reading: each function stands behind the bytes that it is named by, `b` being those in force
+
+fn ends(b: PointBytes, lox: u8, place: usize, next: usize) -> PointRead
+    ensures { λ r. ⌜ pointOf r ≡ endsAt b lox place next ⌝ }
+{
+    let mut all = b;
+    all.lox = lox;
+    let point = point_of(all);
+    PointRead::At(point, place, next)
+}
+
+// Only LoX is left.
+fn last(kept: Remembered, b: PointBytes, s: &[u8], at: usize) -> PointRead
+    ensures { λ r. ⌜ pointOf r ≡ lastAt kept b (now (s .entry)) at ⌝ }
+{
+    match wire::take(kept, s, at) {
+        ByteRead::Byte(v, p, n) => {
+            if v < 64 {
+                return PointRead::NoPoint(Refusal::ByteNotAllowed, p);
+            }
+            if v < 96 {
+                return ends(b, v, p, n);
+            }
+            PointRead::NoPoint(Refusal::ByteNotAllowed, p)
+        }
+        ByteRead::NoByte(e, p) => PointRead::NoPoint(e, p),
+    }
+}
+
+// Behind Extra and LoY: HiX may follow.
+fn after_lo_y(kept: Remembered, b: PointBytes, s: &[u8], at: usize) -> PointRead
+    ensures { λ r. ⌜ pointOf r ≡ afterLoY kept b (now (s .entry)) at ⌝ }
+{
+    match wire::take(kept, s, at) {
+        ByteRead::Byte(v, p, n) => {
+            if v < 64 {
+                let mut more = b;
+                more.hix = v;
+                return last(kept, more, s, n);
+            }
+            if v < 96 {
+                return ends(b, v, p, n);
+            }
+            PointRead::NoPoint(Refusal::ByteNotAllowed, p)
+        }
+        ByteRead::NoByte(e, p) => PointRead::NoPoint(e, p),
+    }
+}
+
+// Behind a first byte 96..127, `upper`: it is Extra if a second one follows, and LoY if not.
+fn after_upper(kept: Remembered, b: PointBytes, upper: u8, s: &[u8], at: usize) -> PointRead
+    ensures { λ r. ⌜ pointOf r ≡ afterUpper kept b upper (now (s .entry)) at ⌝ }
+{
+    let mut more = b;
+    match wire::take(kept, s, at) {
+        ByteRead::Byte(v, p, n) => {
+            if v < 64 {
+                more.loy = upper;
+                more.hix = v;
+                return last(kept, more, s, n);
+            }
+            if v < 96 {
+                more.loy = upper;
+                return ends(more, v, p, n);
+            }
+            more.extra = upper;
+            more.loy = v;
+            after_lo_y(kept, more, s, n)
+        }
+        ByteRead::NoByte(e, p) => PointRead::NoPoint(e, p),
+    }
+}
+
+fn after_hi_y(kept: Remembered, b: PointBytes, s: &[u8], at: usize) -> PointRead
+    ensures { λ r. ⌜ pointOf r ≡ afterHiY kept b (now (s .entry)) at ⌝ }
+{
+    match wire::take(kept, s, at) {
+        ByteRead::Byte(v, p, n) => {
+            if v < 64 {
+                return PointRead::NoPoint(Refusal::ByteNotAllowed, p);
+            }
+            if v < 96 {
+                return ends(b, v, p, n);
+            }
+            after_upper(kept, b, v, s, n)
+        }
+        ByteRead::NoByte(e, p) => PointRead::NoPoint(e, p),
+    }
+}
+
+// A point, the bytes `b` being those of the last one.
+fn from_start(kept: Remembered, b: PointBytes, s: &[u8], at: usize) -> PointRead
+    ensures { λ r. ⌜ pointOf r ≡ pointFrom kept b (now (s .entry)) at ⌝ }
+{
+    match wire::take(kept, s, at) {
+        ByteRead::Byte(v, p, n) => {
+            if v < 64 {
+                let mut more = b;
+                more.hiy = v;
+                return after_hi_y(kept, more, s, n);
+            }
+            if v < 96 {
+                return ends(b, v, p, n);
+            }
+            after_upper(kept, b, v, s, n)
+        }
+        ByteRead::NoByte(e, p) => PointRead::NoPoint(e, p),
+    }
+}
+
+// 8 at place 0 for a remembered point outside 0..4095, then the earliest byte decides.
+pub fn read_point(kept: Remembered, s: &[u8], at: usize) -> PointRead
+    ensures { λ r. ⌜ pointOf r ≡ pointAt kept (now (s .entry)) at ⌝ }
+{
+    let remembered = kept.point;
+    if memory::is_inside(remembered) {
+        let b = bytes_of(remembered);
+        return from_start(kept, b, s, at);
+    }
+    PointRead::NoPoint(Refusal::NotValid, 0)
+}
+
+// ---- writing
+
+fn both(a: bool, b: bool) -> bool
+    ensures { λ r. ⌜ r ≡ a && b ⌝ }
+{
+    if a {
+        return b;
+    }
+    false
+}
+
+// The spelling with one byte more, or as it is where that byte is left out.
+fn with_byte(w: Spelling, omit: bool, b: u8) -> Spelling
+    requires { ⌜ w .len < 5 ⌝ }
+    ensures { λ r. ⌜ (Spells (take (w .len) (w .bytes) ++ part omit b) r) × (r .len ≤ w .len + 1) ⌝ }
+{
+    if omit {
+        return w;
+    }
+    let at = w.len;
+    let mut more = w;
+    more.bytes[at] = b;
+    more.len = at + 1;
+    more
+}
+
+// What is sent of a point's bytes `b`, where those of the last point were `a`.
+fn spell(a: PointBytes, b: PointBytes) -> Spelling
+    ensures { λ r. ⌜ Spells (spellBytes a b) r ⌝ }
+{
+    let hiy = a.hiy == b.hiy;
+    let extra = a.extra == b.extra;
+    let hix = a.hix == b.hix;
+    let loy = both(a.loy == b.loy, both(extra, hix));
+    let none = Spelling {
+        bytes: [0, 0, 0, 0, 0],
+        len: 0,
+    };
+    let one = with_byte(none, hiy, b.hiy);
+    let two = with_byte(one, extra, b.extra);
+    let three = with_byte(two, loy, b.loy);
+    let four = with_byte(three, hix, b.hix);
+    with_byte(four, false, b.lox)
+}
+
+// 8 for a point or a remembered point outside 0..4095, then 7.
+pub fn write_point(kept: Remembered, point: Point, out: &mut [u8], at: usize) -> Written
+    ensures { λ r. ⌜ (writtenOf r ≡ writePoint kept point (length (now (out .entry))) at) × (now (out .exit) ≡ afterWrite (writtenOf r) (sent kept (spellPoint (kept .point) point)) (now (out .entry)) at) ⌝ }
+{
+    let remembered = kept.point;
+    if both(memory::is_inside(remembered), memory::is_inside(point)) {
+        let w = spell(bytes_of(remembered), bytes_of(point));
+        let bytes = w.bytes;
+        let len = w.len;
+        return wire::send(kept, &bytes[..len], out, at);
+    }
+    Written::NotWritten(Refusal::NotValid)
+}
