@@ -20,7 +20,7 @@ use Rattle.numbers.specs.declared.IntegerRead.{IntegerRead}
 use Rattle.numbers.specs.declared.IntegerRead.the-variants.{Integer, NoInteger}
 use Rattle.numbers.specs.declared.CountRead.the-variants.{Count, NoCount}
 use Rattle.numbers.specs.Integers.{integerOf, integerFrom, integerAt, lowByte, signedOf, isNegative, limit}
-use Rattle.numbers.specs.Counts.{countAt, countOf}
+use Rattle.numbers.specs.Counts.{countIn, countAt, countOf}
 
 -- ---- the low byte
 
@@ -75,29 +75,32 @@ pub ruleset steps = (low-step, second-step, first-step, third-step, no-step)
 
 -- ---- a count
 
-module _ (kept : Remembered) (s : List ℕ) (at : ℕ) {r : IntegerRead} (e : integerOf r ≡ integerAt kept s at) where
-  pub count-no : {x : Refusal} {p : ℕ} → r ≡ NoInteger x p → countOf (NoCount x p) ≡ countAt kept s at
-  unfolding countAt countOf integerOf
-  count-no g = rw (← e, g)
+module _ (most : ℕ) {r : IntegerRead} where
+  pub count-no : {x : Refusal} {p : ℕ} → r ≡ NoInteger x p → countOf (NoCount x p) ≡ countIn most (integerOf r)
+  unfolding countIn countOf integerOf
+  count-no g = rw g
 
   module _ {v : ℤ} {p n : ℕ} {b : Bool} (g : r ≡ Integer v p n) (f : SFits w32 v) (eb : b ≡ isNegative (toZ w32 (ofZ w32 v))) where
     sign : {t : Bool} → b ≡ t → isNegative v ≡ t
     sign q = sym (rw (toZ-ofZ f) at eb) ∙ q
 
-    pub count-minus : b ≡ true → countOf (NoCount CountOutside p) ≡ countAt kept s at
-    unfolding countAt countOf integerOf
-    count-minus t = rw (← e, g, sign t)
+    pub count-minus : b ≡ true → countOf (NoCount CountOutside p) ≡ countIn most (integerOf r)
+    unfolding countIn countOf integerOf
+    count-minus t = rw (g, sign t)
 
     module _ {m : ℕ} (t : b ≡ false) (em : m ≡ natAbs (toZ w32 (ofZ w32 v))) where
       size : m ≡ natAbs v
       size = rw (toZ-ofZ f) at em
 
-      pub count-is : m ≤ 256 → countOf (Count m p n) ≡ countAt kept s at
-      unfolding countAt countOf integerOf
-      count-is h = rw (← e, g, sign t, ← size, le-leb m 256 h)
+      pub count-is : m ≤ most → countOf (Count m p n) ≡ countIn most (integerOf r)
+      unfolding countIn countOf integerOf
+      count-is h = rw (g, sign t, ← size, le-leb m most h)
 
-      pub count-over : 256 < m → countOf (NoCount CountOutside p) ≡ countAt kept s at
-      unfolding countAt countOf integerOf
-      count-over h = rw (← e, g, sign t, ← size, lt-leb m 256 h)
+      pub count-over : most < m → countOf (NoCount CountOutside p) ≡ countIn most (integerOf r)
+      unfolding countIn countOf integerOf
+      count-over h = rw (g, sign t, ← size, lt-leb m most h)
 
 pub ruleset counts = (count-no, count-minus, count-is, count-over)
+
+pub counted : (kept : Remembered) (s : List ℕ) (at : ℕ) {i : Answer (Read ℤ)} {q : Answer (Read ℕ)} → i ≡ integerAt kept s at → q ≡ countIn 256 i → q ≡ countAt kept s at
+counted kept s at e j = rw (← e) j

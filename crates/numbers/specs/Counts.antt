@@ -20,18 +20,21 @@ countOf (NoCount e p) = refused (numberOf e) p
 abbrev pub mostEntries : ℕ
 mostEntries = 256
 
--- "count negative or above 256 (place: its low byte)"
-abbrev pub asCount : Read ℤ → Answer (Read ℕ)
-asCount i =
+-- an integer that was read, as a count of at most most: "count negative or above 256 (place: its low byte)"
+abbrev pub asCount : ℕ → Read ℤ → Answer (Read ℕ)
+asCount most i =
     pick (isNegative (i .value))
     (refused 5 (i .place))
-    (pick (leb (natAbs (i .value)) mostEntries)
+    (pick (leb (natAbs (i .value)) most)
     (done (record { value = natAbs (i .value); place = i .place; next = i .next }))
     (refused 5 (i .place)))
 
 -- "at one byte, 4 before 5"
-unfoldable pub countAt : Remembered → List ℕ → ℕ → Answer (Read ℕ)
-countAt kept s at = then (integerAt kept s at) asCount
+unfoldable pub countIn : ℕ → Answer (Read ℤ) → Answer (Read ℕ)
+countIn most i = then i (asCount most)
+
+abbrev pub countAt : Remembered → List ℕ → ℕ → Answer (Read ℕ)
+countAt kept s at = countIn mostEntries (integerAt kept s at)
 
 unfoldable pub writeCount : Remembered → ℕ → ℕ → ℕ → Answer ℕ
 writeCount kept n room at = pick (leb n mostEntries) (writeAt (sent kept (spell (pos n))) room at) (refused 8 0)

@@ -5,7 +5,7 @@ ghost use lib.ListN.{length};
 ghost use lib.IntN.{natAbs, pos};
 ghost use Rattle.wire.specs.Sending.{sent, afterWrite, writtenOf, Spells};
 ghost use Rattle.numbers.specs.Integers.{signedOf, isNegative, limit, lowByte, integerFrom, integerAt, integerOf, lowOf, spellOf, spell, writeInteger};
-ghost use Rattle.numbers.specs.Counts.{countAt, countOf, writeCount};
+ghost use Rattle.numbers.specs.Counts.{countIn, countAt, countOf, writeCount};
 use memory::Remembered;
 use refusals::Refusal;
 use wire::ByteRead;
@@ -134,22 +134,29 @@ pub fn read_integer(kept: Remembered, s: &[u8], at: usize) -> IntegerRead
     }
 }
 
-pub fn read_count(kept: Remembered, s: &[u8], at: usize) -> CountRead
-    ensures { λ r. ⌜ countOf r ≡ countAt kept (now (s .entry)) at ⌝ }
+// An integer that was read, as a count of at most `most`.
+pub fn as_count(read: IntegerRead, most: usize) -> CountRead
+    ensures { λ r. ⌜ countOf r ≡ countIn most (integerOf read) ⌝ }
 {
-    match read_integer(kept, s, at) {
+    match read {
         IntegerRead::Integer(v, p, n) => {
             if is_negative(v) {
                 return CountRead::NoCount(Refusal::CountOutside, p);
             }
             let m = magnitude(v) as usize;
-            if m <= MOST_ENTRIES {
+            if m <= most {
                 return CountRead::Count(m, p, n);
             }
             CountRead::NoCount(Refusal::CountOutside, p)
         }
         IntegerRead::NoInteger(e, p) => CountRead::NoCount(e, p),
     }
+}
+
+pub fn read_count(kept: Remembered, s: &[u8], at: usize) -> CountRead
+    ensures { λ r. ⌜ countOf r ≡ countAt kept (now (s .entry)) at ⌝ }
+{
+    as_count(read_integer(kept, s, at), MOST_ENTRIES)
 }
 
 // The low byte of a magnitude and a sign.
