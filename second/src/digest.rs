@@ -53,6 +53,18 @@ impl Digest {
         }
     }
 
+    /// "A string report that is done: 0, the number of entries, the place where reading goes on."
+    pub fn string(&mut self, reading: Reading<usize>) {
+        match reading {
+            Ok(found) => {
+                self.number(0);
+                self.size(found.value);
+                self.size(found.next);
+            }
+            refused => self.reading(refused, Digest::size),
+        }
+    }
+
     /// Takes in a reading's answer, its value in the given way.
     pub fn reading<T>(&mut self, answer: Reading<T>, take_value: fn(&mut Digest, T)) {
         match answer {

@@ -92,8 +92,7 @@ pub fn report_strings() -> Block {
         digest.bytes(&bytes);
 
         let mut list = [-1; LIST_ROOM];
-        let read = read_string_report(&bytes, PLACE, &mut list);
-        digest.reading(read, Digest::size);
+        digest.string(read_string_report(&bytes, PLACE, &mut list));
         digest.signed_list(&list);
     }
     block

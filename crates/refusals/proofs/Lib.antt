@@ -1,2 +1,4 @@
 pub mod Numbers
 pub mod Rules
+pub mod Cases
+pub mod Coinciding

@@ -1,0 +1,31 @@
+-- Going by the cases of a definition: what holds in each case holds of the whole. A law on what reading gives is proved by these,
+-- with no test taken apart by hand.
+use Prim.Native.Nat.{ℕ}
+use mathlib.Core.Path.{_≡_, refl, subst}
+use mathlib.Core.Bool.{Bool, true, false}
+use Rattle.refusals.specs.Answers.{Answer, done, refused, then, pick}
+
+pub by-pick : {A : Type 0} (P : A → Type 0) (b : Bool) (x y : A) → (b ≡ true → P x) → (b ≡ false → P y) → P (pick b x y)
+by-pick P true x y f g = f refl
+by-pick P false x y f g = g refl
+
+pub by-then : {A B : Type 0} (P : Answer B → Type 0) (a : Answer A) (k : A → Answer B) → ((x : A) → a ≡ done x → P (k x)) → ((e p : ℕ) → a ≡ refused e p → P (refused e p)) → P (then a k)
+by-then P (done x) k f g = f x refl
+by-then P (refused e p) k f g = g e p refl
+
+-- P holds of what is done; of a refusal it says nothing
+unfoldable pub Done : {A : Type 0} (P : A → Type 0) → Answer A → Type 0
+Done P (done x) = P x
+Done P (refused e p) = Unit {0}
+
+pub done-of : {A : Type 0} (P : A → Type 0) {a : Answer A} {x : A} → Done P a → a ≡ done x → P x
+unfolding Done
+done-of P h e = subst (Done P) e h
+
+pub is-done : {A : Type 0} (P : A → Type 0) {x : A} → P x → Done P (done x)
+unfolding Done
+is-done P h = h
+
+pub not-done : {A : Type 0} (P : A → Type 0) (e p : ℕ) → Done P (refused e p)
+unfolding Done
+not-done P e p = tt

@@ -1,0 +1,109 @@
+-- What `take` gives, one byte after the other. The laws of a parameter go by this and say nothing of how a byte is sent.
+use Prim.Native.Nat.{ℕ, zero, suc, _+_, _≤_, _<_}
+use mathlib.Core.Path.{_≡_, refl, sym, _∙_, ap}
+use mathlib.Core.Bool.{Bool, true, false}
+use mathlib.Core.List.{List, [], _∷_, _++_}
+use native.Mathlib.Omega.{arith}
+use borrow.Author.Tests.{lt-ltb, le-ltb, ne-eqb, ltb-true, ltb-false}
+use lib.Dec.{ltb, eqb}
+use lib.ListN.{length, getD, length-append, List·getD-append}
+use lib.Seq.{getD-append-add}
+use Rattle.memory.specs.declared.Remembered.{Remembered}
+use Rattle.refusals.specs.Answers.{Answer, done, refused, Read, pick}
+use Rattle.refusals.proofs.Cases.{by-pick, Done, done-of, is-done, not-done}
+use Rattle.wire.specs.Taking.{byteAt, pairAt}
+use Rattle.wire.specs.Sending.{sent}
+
+-- w stands in s from at on
+pub record Stands (s : List ℕ) (at : ℕ) (w : List ℕ) : Type 0 where
+  pub room : at + length w ≤ length s
+  pub same : (i : ℕ) → i < length w → getD s (at + i) 0 ≡ getD w i 0
+
+pub stands-between : (before w after : List ℕ) → Stands (before ++ (w ++ after)) (length before) w
+stands-between before w after = record {
+  room = omega (arith, length-append before (w ++ after), length-append w after);
+  same = λ i h. getD-append-add before (w ++ after) i 0 ∙ List·getD-append w after 0 i h;
+}
+
+pub stands-left : (s : List ℕ) (at : ℕ) (a w : List ℕ) → Stands s at (a ++ w) → Stands s at a
+stands-left s at a w st = record {
+  room = omega (arith, st .room, length-append a w);
+  same = λ i h. st .same i (omega (arith, length-append a w)) ∙ List·getD-append a w 0 i h;
+}
+
+pub stands-right : (s : List ℕ) (at : ℕ) (a w : List ℕ) → Stands s at (a ++ w) → Stands s (at + length a) w
+stands-right s at a w st = record {
+  room = omega (arith, st .room, length-append a w);
+  same = λ i h.
+      let e : at + length a + i ≡ at + (length a + i) = omega arith in
+      ap (λ (k : ℕ). getD s k 0) e ∙ st .same (length a + i) (omega (arith, length-append a w)) ∙ getD-append-add a w i 0;
+}
+
+-- from at on the bytes w are taken, up to n
+abbrev pub Feeds : Remembered → List ℕ → ℕ → List ℕ → ℕ → Type 0
+Feeds kept s at [] n = at ≡ n
+Feeds kept s at (b ∷ w) n = (p : ℕ) × ((m : ℕ) × ((byteAt kept s at ≡ done (record { value = b; place = p; next = m })) × Feeds kept s m w n))
+
+-- every byte is one that a parameter may hold
+abbrev pub Plain : List ℕ → Type 0
+Plain [] = Unit {0}
+Plain (b ∷ w) = ((32 ≤ b) × (b ≤ 127)) × Plain w
+
+take-plain : (kept : Remembered) (s : List ℕ) (at b : ℕ) → at < length s → getD s at 0 ≡ b → 32 ≤ b → b ≤ 127 → byteAt kept s at ≡ done (record { value = b; place = at; next = at + 1 })
+unfolding byteAt
+take-plain kept s at b i e l h = simp (e, lt-ltb at (length s) i, ne-eqb b 27 (λ q. omega arith), le-ltb b 32 l, le-ltb 127 b h)
+
+-- what is sent is taken
+pub sent-taken : (kept : Remembered) (s : List ℕ) (at : ℕ) (w : List ℕ) → Plain w → Stands s at (sent kept w) → Feeds kept s at w (at + length (sent kept w))
+unfolding sent
+sent-taken kept s at [] pl st = omega arith
+sent-taken kept s at (b ∷ w) pl st =
+    let z : at ≡ at + 0 = omega arith in
+    let n : at + 1 + length w ≡ at + length (b ∷ w) = omega arith in
+    let r : Stands s (at + 1) w = stands-right s at (b ∷ []) w st in
+    (at, (at + 1, (take-plain kept s at b (omega (arith, st .room)) (ap (λ (k : ℕ). getD s k 0) z ∙ st .same 0 (omega arith)) (pl .0 .0) (pl .0 .1), rw n at (sent-taken kept s (at + 1) w (pl .1) r))))
+
+-- ---- a byte that is taken
+
+pub record Took (s : List ℕ) (at : ℕ) (r : Read ℕ) : Type 0 where
+  pub forward : at < r .next
+  pub within : r .next ≤ length s
+  pub least : 32 ≤ r .value
+  pub most : r .value ≤ 127
+  pub from : at ≤ r .place
+  pub behind : r .place < r .next
+
+pair-took : (s : List ℕ) (at : ℕ) → Done (Took s at) (pairAt s at)
+unfolding pairAt
+pair-took s at =
+    by-pick (Done (Took s at)) (ltb (at + 1) (length s)) _ _
+    (λ t. by-pick (Done (Took s at)) (eqb (getD s (at + 1) 0) 63) _ _
+    (λ u. let h : at + 1 < length s = ltb-true (at + 1) (length s) t in
+    is-done (Took s at) (record { forward = omega arith; within = omega arith; least = omega arith; most = omega arith; from = omega arith; behind = omega arith }))
+    (λ u. not-done (Took s at) 6 at))
+    (λ t. not-done (Took s at) 1 (length s))
+
+byte-took : (kept : Remembered) (s : List ℕ) (at : ℕ) → Done (Took s at) (byteAt kept s at)
+unfolding byteAt
+byte-took kept s at =
+    by-pick (Done (Took s at)) (ltb at (length s)) _ _
+    (λ t. by-pick (Done (Took s at)) (eqb (getD s at 0) 27) _ _
+    (λ u. pair-took s at)
+    (λ u. by-pick (Done (Took s at)) (ltb (getD s at 0) 32) _ _
+    (λ v. not-done (Took s at) 3 at)
+    (λ v. by-pick (Done (Took s at)) (ltb 127 (getD s at 0)) _ _
+    (λ x. not-done (Took s at) 3 at)
+    (λ x.
+        let h : at < length s = ltb-true at (length s) t in
+        let l : 32 ≤ getD s at 0 = ltb-false (getD s at 0) 32 v in
+        let m : getD s at 0 ≤ 127 = ltb-false 127 (getD s at 0) x in
+        is-done (Took s at) (record { forward = omega arith; within = omega arith; least = l; most = m; from = omega arith; behind = omega arith })))))
+    (λ t. not-done (Took s at) 1 (length s))
+
+pub took : (kept : Remembered) (s : List ℕ) (at : ℕ) {r : Read ℕ} → byteAt kept s at ≡ done r → Took s at r
+took kept s at e = done-of (Took s at) (byte-took kept s at) e
+
+-- what was taken was not sent in fewer bytes
+pub took-least : (kept : Remembered) (s : List ℕ) (at : ℕ) {r : Read ℕ} → byteAt kept s at ≡ done r → at + length (sent kept (r .value ∷ [])) ≤ r .next
+unfolding sent
+took-least kept s at e = let t = took kept s at e in omega (arith, t .forward)
