@@ -2,3 +2,6 @@ pub mod Signs
 pub mod Reading
 pub mod Spelling
 pub mod Writing
+pub mod RoundTrip
+pub mod Shortest
+pub mod Coinciding

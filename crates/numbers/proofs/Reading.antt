@@ -12,10 +12,11 @@ use mir.Facts.{toZ-ofZ}
 use Rattle.memory.specs.declared.Remembered.{Remembered}
 use Rattle.refusals.specs.declared.Refusal.{Refusal}
 use Rattle.refusals.specs.declared.Refusal.the-variants.{IntegerOutside, CountOutside}
-use Rattle.refusals.specs.Answers.{Answer, Read}
+use Rattle.refusals.specs.Answers.{Answer, Read, done, refused}
 use Rattle.wire.specs.declared.ByteRead.{ByteRead}
 use Rattle.wire.specs.declared.ByteRead.the-variants.{Byte, NoByte}
 use Rattle.wire.specs.Taking.{byteAt, byteOf}
+use Rattle.wire.proofs.Feeds.{byte-given, none-given}
 use Rattle.numbers.specs.declared.IntegerRead.{IntegerRead}
 use Rattle.numbers.specs.declared.IntegerRead.the-variants.{Integer, NoInteger}
 use Rattle.numbers.specs.declared.CountRead.the-variants.{Count, NoCount}
@@ -45,31 +46,45 @@ pub ruleset lows = (low-minus, low-plus, low-under, low-over)
 
 -- ---- one byte of an integer
 
+module _ (kept : Remembered) (s : List ℕ) (at : ℕ) {r : Read ℕ} (e : byteAt kept s at ≡ done r) where
+  pub low-byte : (k h : ℕ) → r .value < 64 → integerFrom kept k h s at ≡ lowByte h (r .value) (r .place) (r .next)
+  unfolding integerFrom
+  low-byte zero h l = rw (e, lt-ltb (r .value) 64 l)
+  low-byte (suc k) h l = rw (e, lt-ltb (r .value) 64 l)
+
+  pub high-byte : (k h : ℕ) → 64 ≤ r .value → integerFrom kept (suc k) h s at ≡ integerFrom kept k (h * 64 + r .value % 64) s (r .next)
+  unfolding integerFrom
+  high-byte k h l = rw (e, le-ltb (r .value) 64 l)
+
+  pub third-high : (h : ℕ) → 64 ≤ r .value → integerFrom kept 0 h s at ≡ refused 4 (r .place)
+  unfolding integerFrom
+  third-high h l = rw (e, le-ltb (r .value) 64 l)
+
+pub no-byte : (kept : Remembered) (s : List ℕ) (at : ℕ) (k h : ℕ) {x p : ℕ} → byteAt kept s at ≡ refused x p → integerFrom kept k h s at ≡ refused x p
+unfolding integerFrom
+no-byte kept s at zero h e = rw e
+no-byte kept s at (suc k) h e = rw e
+
+-- the same, as the code has it: what `take` gave, and what stands for the rest
 module _ (kept : Remembered) (s : List ℕ) (at : ℕ) {r : ByteRead} (e : byteOf r ≡ byteAt kept s at) where
   pub low-step : (k h : ℕ) {b p n : ℕ} {q : Answer (Read ℤ)} → r ≡ Byte b p n → b < 64 → q ≡ lowByte h b p n → q ≡ integerFrom kept k h s at
-  unfolding integerFrom byteOf
-  low-step zero h {b = b} g l j = rw (← e, g, lt-ltb b 64 l) j
-  low-step (suc k) h {b = b} g l j = rw (← e, g, lt-ltb b 64 l) j
-
-  pub high-step : (k h : ℕ) {b p n : ℕ} {q : Answer (Read ℤ)} → r ≡ Byte b p n → 64 ≤ b → q ≡ integerFrom kept k (h * 64 + b % 64) s n → q ≡ integerFrom kept (suc k) h s at
-  unfolding integerFrom byteOf
-  high-step k h {b = b} g l j = rw (← e, g, le-ltb b 64 l) j
+  low-step k h g l j = j ∙ sym (low-byte kept s at (byte-given kept s at e g) k h l)
 
   -- at the numerals that the contracts name
   pub second-step : (h : ℕ) {b p n : ℕ} {q : Answer (Read ℤ)} → r ≡ Byte b p n → 64 ≤ b → q ≡ integerFrom kept 0 (h * 64 + b % 64) s n → q ≡ integerFrom kept 1 h s at
-  second-step h = high-step 0 h
+  second-step h g l j = j ∙ sym (high-byte kept s at (byte-given kept s at e g) 0 h l)
 
   pub first-step : {b p n : ℕ} {q : Answer (Read ℤ)} → r ≡ Byte b p n → 64 ≤ b → q ≡ integerFrom kept 1 (b % 64) s n → q ≡ integerFrom kept 2 0 s at
-  first-step {n = n} g l j = high-step 1 0 g l (j ∙ ap (λ (h : ℕ). integerFrom kept 1 h s n) (omega arith))
+  first-step {n = n} g l j =
+      j ∙ ap (λ (h : ℕ). integerFrom kept 1 h s n) (omega arith) ∙ sym (high-byte kept s at (byte-given kept s at e g) 1 0 l)
 
   pub third-step : (h : ℕ) {b p n : ℕ} → r ≡ Byte b p n → 64 ≤ b → integerOf (NoInteger IntegerOutside p) ≡ integerFrom kept 0 h s at
-  unfolding integerFrom byteOf integerOf
-  third-step h {b = b} g l = rw (← e, g, le-ltb b 64 l)
+  unfolding integerOf
+  third-step h g l = sym (third-high kept s at (byte-given kept s at e g) h l)
 
   pub no-step : (k h : ℕ) {x : Refusal} {p : ℕ} → r ≡ NoByte x p → integerOf (NoInteger x p) ≡ integerFrom kept k h s at
-  unfolding integerFrom byteOf integerOf
-  no-step zero h g = rw (← e, g)
-  no-step (suc k) h g = rw (← e, g)
+  unfolding integerOf
+  no-step k h g = sym (no-byte kept s at k h (none-given kept s at e g))
 
 pub ruleset steps = (low-step, second-step, first-step, third-step, no-step)
 

@@ -1,5 +1,6 @@
 -- What a call gives back, as document 01 counts it: 0 and the call's values, or a refusal's number and its place.
 use Prim.Native.Nat.{ℕ}
+use mathlib.Core.Path.{_≡_}
 use mathlib.Core.Bool.{Bool, true, false}
 
 pub data Answer (A : Type 0) : Type 0 where
@@ -25,3 +26,8 @@ then (refused e p) k = refused e p
 abbrev pub pick : {A : Type 0} → Bool → A → A → A
 pick true a b = a
 pick false a b = b
+
+-- the answer is that v was read and that reading goes on at n
+unfoldable pub Reads : {A : Type 0} → A → ℕ → Answer (Read A) → Type 0
+Reads v n (done r) = (r .value ≡ v) × (r .next ≡ n)
+Reads v n (refused e p) = ⊥

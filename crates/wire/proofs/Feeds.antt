@@ -9,9 +9,13 @@ use lib.Dec.{ltb, eqb}
 use lib.ListN.{length, getD, length-append, List·getD-append}
 use lib.Seq.{getD-append-add}
 use Rattle.memory.specs.declared.Remembered.{Remembered}
+use Rattle.refusals.specs.declared.Refusal.{Refusal}
+use Rattle.refusals.specs.Refusals.{numberOf}
 use Rattle.refusals.specs.Answers.{Answer, done, refused, Read, pick}
 use Rattle.refusals.proofs.Cases.{by-pick, Done, done-of, is-done, not-done}
-use Rattle.wire.specs.Taking.{byteAt, pairAt}
+use Rattle.wire.specs.declared.ByteRead.{ByteRead}
+use Rattle.wire.specs.declared.ByteRead.the-variants.{Byte, NoByte}
+use Rattle.wire.specs.Taking.{byteAt, byteOf, pairAt}
 use Rattle.wire.specs.Sending.{sent}
 
 -- w stands in s from at on
@@ -38,6 +42,15 @@ stands-right s at a w st = record {
       let e : at + length a + i ≡ at + (length a + i) = omega arith in
       ap (λ (k : ℕ). getD s k 0) e ∙ st .same (length a + i) (omega (arith, length-append a w)) ∙ getD-append-add a w i 0;
 }
+
+-- what a caller of `take` has in hand
+pub byte-given : (kept : Remembered) (s : List ℕ) (at : ℕ) {r : ByteRead} {b p n : ℕ} → byteOf r ≡ byteAt kept s at → r ≡ Byte b p n → byteAt kept s at ≡ done (record { value = b; place = p; next = n })
+unfolding byteOf
+byte-given kept s at e g = sym e ∙ rw g
+
+pub none-given : (kept : Remembered) (s : List ℕ) (at : ℕ) {r : ByteRead} {x : Refusal} {p : ℕ} → byteOf r ≡ byteAt kept s at → r ≡ NoByte x p → byteAt kept s at ≡ refused (numberOf x) p
+unfolding byteOf
+none-given kept s at e g = sym e ∙ rw g
 
 -- from at on the bytes w are taken, up to n
 abbrev pub Feeds : Remembered → List ℕ → ℕ → List ℕ → ℕ → Type 0
