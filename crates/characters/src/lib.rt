@@ -1,0 +1,46 @@
+// Characters as entries of a lent list of numbers: 32 to 127.
+ghost use mathlib.Core.Path.{_≡_};
+ghost use Prim.Native.Nat.{_%_};
+ghost use lib.IntN.{natAbs, pos};
+ghost use Rattle.characters.specs.Characters.{isCharacter, areCharacters};
+
+pub fn is_character(v: i32) -> bool
+    ensures { λ r. ⌜ r ≡ isCharacter v ⌝ }
+{
+    if numbers::is_negative(v) {
+        return false;
+    }
+    let m = numbers::magnitude(v);
+    if m < 32 {
+        return false;
+    }
+    m <= 127
+}
+
+pub fn are_characters(list: &[i32]) -> bool
+    ensures { λ r. ⌜ r ≡ areCharacters (now (list .entry)) ⌝ }
+{
+    let mut i = 0;
+    while i < list.len() {
+        let v = list[i];
+        if is_character(v) {
+            i = i + 1;
+        } else {
+            return false;
+        }
+    }
+    true
+}
+
+// The byte of an entry; an entry that is no byte loses what does not fit.
+pub fn byte_of(v: i32) -> u8
+    ensures { λ r. ⌜ r ≡ natAbs v % 256 ⌝ }
+{
+    (numbers::magnitude(v) % 256) as u8
+}
+
+pub fn entry_of(b: u8) -> i32
+    ensures { λ r. ⌜ r ≡ pos b ⌝ }
+{
+    b as i32
+}
