@@ -6,7 +6,7 @@ use lib.IntN.{ℤ, pos, natAbs}
 use Rattle.memory.specs.declared.Remembered.{Remembered}
 use Rattle.refusals.specs.Refusals.{numberOf}
 use Rattle.refusals.specs.Answers.{Answer, done, refused, Read, then, pick}
-use Rattle.wire.specs.Sending.{sent, writeAt}
+use Rattle.wire.specs.Sending.{sent, writeIf}
 use Rattle.numbers.specs.Integers.{integerAt, isNegative, spell}
 use Rattle.numbers.specs.declared.CountRead.{CountRead}
 use Rattle.numbers.specs.declared.CountRead.the-variants.{Count, NoCount}
@@ -36,5 +36,5 @@ countIn most i = then i (asCount most)
 abbrev pub countAt : Remembered → List ℕ → ℕ → Answer (Read ℕ)
 countAt kept s at = countIn mostEntries (integerAt kept s at)
 
-unfoldable pub writeCount : Remembered → ℕ → ℕ → ℕ → Answer ℕ
-writeCount kept n room at = pick (leb n mostEntries) (writeAt (sent kept (spell (pos n))) room at) (refused 8 0)
+abbrev pub writeCount : Remembered → ℕ → ℕ → ℕ → Answer ℕ
+writeCount kept n room at = writeIf (leb n mostEntries) (sent kept (spell (pos n))) room at

@@ -9,7 +9,7 @@ use Rattle.memory.specs.declared.Remembered.{Remembered}
 use Rattle.refusals.specs.Refusals.{numberOf}
 use Rattle.refusals.specs.Answers.{Answer, done, refused, Read, then, pick}
 use Rattle.wire.specs.Taking.{byteAt}
-use Rattle.wire.specs.Sending.{sent, writeAt}
+use Rattle.wire.specs.Sending.{sent, writeIf}
 use Rattle.numbers.specs.declared.IntegerRead.{IntegerRead}
 use Rattle.numbers.specs.declared.IntegerRead.the-variants.{Integer, NoInteger}
 
@@ -76,6 +76,5 @@ spell v = spellOf (natAbs v) (isNegative v)
 abbrev pub isInteger : ℤ → Bool
 isInteger v = leb (natAbs v) (limit (isNegative v))
 
--- "8 for .. a value .. outside its range .. then 7"
-unfoldable pub writeInteger : Remembered → ℤ → ℕ → ℕ → Answer ℕ
-writeInteger kept v room at = pick (isInteger v) (writeAt (sent kept (spell v)) room at) (refused 8 0)
+abbrev pub writeInteger : Remembered → ℤ → ℕ → ℕ → Answer ℕ
+writeInteger kept v room at = writeIf (isInteger v) (sent kept (spell v)) room at

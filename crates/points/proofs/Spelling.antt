@@ -9,17 +9,12 @@ use lib.Dec.{eqb}
 use lib.ListN.{length, take, set, length-set}
 use lib.Seq.{take-suc-set}
 use Rattle.memory.specs.declared.Point.{Point}
-use Rattle.memory.specs.declared.Remembered.{Remembered}
 use Rattle.memory.specs.Memory.{inside}
-use Rattle.refusals.specs.declared.Refusal.{Refusal}
-use Rattle.refusals.specs.declared.Refusal.the-variants.{NotValid}
-use Rattle.refusals.specs.Answers.{Answer}
 use Rattle.wire.specs.declared.Spelling.{Spelling}
-use Rattle.wire.specs.declared.Written.the-variants.{NotWritten}
-use Rattle.wire.specs.Sending.{Spells, sent, writeAt, writtenOf, afterWrite}
+use Rattle.wire.specs.Sending.{Spells}
 use Rattle.points.specs.declared.PointBytes.{PointBytes}
 use Rattle.points.specs.Layout.{bytesOf}
-use Rattle.points.specs.Writing.{part, spellBytes, spellPoint, writePoint}
+use Rattle.points.specs.Writing.{part, spellBytes, spellPoint}
 
 module _ (w : Spelling) (t : Bool) (b : ℕ) (h : w .len < length (w .bytes)) where
   pub omitted : t ≡ true → Spells (take (w .len) (w .bytes) ++ part t b) w
@@ -47,24 +42,10 @@ five-parts a b e₁ e₂ ex ey e₃ e₄ e₅ = rw (e₅, e₄, e₃, e₂, e₁
 
 -- ---- writing
 
-module _ (kept : Remembered) (p : Point) {t u v : Bool} (eu : u ≡ inside (kept .point)) (ev : v ≡ inside p) (et : t ≡ u && v) where
-  pub point-outside : (room at : ℕ) → t ≡ false → writtenOf (NotWritten NotValid) ≡ writePoint kept p room at
-  unfolding writePoint writtenOf
-  point-outside room at g = rw (← eu, ← ev, ← et, g)
+pub both-tested : (p q : Point) {t u v w : Bool} → u ≡ inside p → v ≡ inside q → t ≡ u && v → t ≡ w → inside p && inside q ≡ w
+both-tested p q eu ev et e = rw (← eu, ← ev, ← et) e
 
-  module _ {a b : PointBytes} {w : List ℕ} (ea : a ≡ bytesOf (kept .point)) (eb : b ≡ bytesOf p) (ew : w ≡ spellBytes a b) where
-    spelled : w ≡ spellPoint (kept .point) p
-    spelled = ew ∙ rw (ea, eb)
+pub point-spelled : (p q : Point) {a b : PointBytes} {w : List ℕ} → a ≡ bytesOf p → b ≡ bytesOf q → w ≡ spellBytes a b → w ≡ spellPoint p q
+point-spelled p q ea eb ew = ew ∙ rw (ea, eb)
 
-    pub point-written : (room at : ℕ) {q : Answer ℕ} → t ≡ true → q ≡ writeAt (sent kept w) room at → q ≡ writePoint kept p room at
-    unfolding writePoint
-    point-written room at g j = rw (← eu, ← ev, ← et, g, ← spelled) j
-
-    pub point-stands : (o l : List ℕ) (at : ℕ) (q : Answer ℕ) → o ≡ afterWrite q (sent kept w) l at → o ≡ afterWrite q (sent kept (spellPoint (kept .point) p)) l at
-    point-stands o l at q j = rw (← spelled) j
-
-pub refused-same : (e : Refusal) (w l : List ℕ) (at : ℕ) → l ≡ afterWrite (writtenOf (NotWritten e)) w l at
-unfolding writtenOf afterWrite
-refused-same e w l at = refl
-
-pub ruleset writings = (point-outside, point-written, point-stands, refused-same)
+pub ruleset points = (both-tested, point-spelled)

@@ -6,8 +6,8 @@ use lib.Dec.{eqb}
 use Rattle.memory.specs.declared.Point.{Point}
 use Rattle.memory.specs.declared.Remembered.{Remembered}
 use Rattle.memory.specs.Memory.{inside}
-use Rattle.refusals.specs.Answers.{Answer, refused, pick}
-use Rattle.wire.specs.Sending.{sent, writeAt}
+use Rattle.refusals.specs.Answers.{Answer, pick}
+use Rattle.wire.specs.Sending.{sent, writeIf}
 use Rattle.points.specs.declared.PointBytes.{PointBytes}
 use Rattle.points.specs.Layout.{bytesOf}
 
@@ -26,7 +26,6 @@ spellBytes a b =
 abbrev pub spellPoint : (last this : Point) → List ℕ
 spellPoint last this = spellBytes (bytesOf last) (bytesOf this)
 
--- "8 for .. a value or remembered point outside its range .. then 7"
-unfoldable pub writePoint : Remembered → Point → ℕ → ℕ → Answer ℕ
-writePoint kept p room at =
-    pick (inside (kept .point) && inside p) (writeAt (sent kept (spellPoint (kept .point) p)) room at) (refused 8 0)
+-- "a value or remembered point outside its range"
+abbrev pub writePoint : Remembered → Point → ℕ → ℕ → Answer ℕ
+writePoint kept p room at = writeIf (inside (kept .point) && inside p) (sent kept (spellPoint (kept .point) p)) room at

@@ -1,16 +1,19 @@
 -- Laying bytes: what the loop keeps, and each way out of it.
 use Prim.Native.Nat.{ℕ, _+_, _-_, _≤_, _<_}
 use mathlib.Core.Path.{_≡_, refl, sym, _∙_, ap}
+use mathlib.Core.Bool.{Bool, true, false}
 use mathlib.Core.List.{List, [], _∷_}
 use native.Mathlib.Omega.{arith}
 use native.Mathlib.Numerals.{add-one}
 use borrow.Author.Tests.{le-leb, lt-leb}
 use lib.ListN.{length, getD, drop, set, length-set, drop-of-length-le}
 use lib.Seq.{sets, drop-cons}
+use Rattle.memory.specs.declared.Remembered.{Remembered}
+use Rattle.refusals.specs.Answers.{Answer}
 use Rattle.refusals.specs.declared.Refusal.{Refusal}
-use Rattle.refusals.specs.declared.Refusal.the-variants.{TooShort}
+use Rattle.refusals.specs.declared.Refusal.the-variants.{TooShort, NotValid}
 use Rattle.wire.specs.declared.Written.the-variants.{Next, NotWritten}
-use Rattle.wire.specs.Sending.{writtenOf, writeAt, afterWrite}
+use Rattle.wire.specs.Sending.{sent, writtenOf, writeAt, writeIf, afterWrite}
 
 -- what is left, laid from here, ends where the whole ends
 pub record Laying (w out₀ out : List ℕ) (at i : ℕ) : Type 0 where
@@ -58,5 +61,23 @@ module _ (w l : List ℕ) (at : ℕ) where
   pub all-changed : (n : ℕ) {o : List ℕ} → o ≡ sets l at w → o ≡ afterWrite (writtenOf (Next n)) w l at
   unfolding writtenOf afterWrite
   all-changed n e = e
+
+-- ---- what is inside its range is written, and nothing else
+
+pub outside : (w : List ℕ) (room at : ℕ) {ok : Bool} → ok ≡ false → writtenOf (NotWritten NotValid) ≡ writeIf ok w room at
+unfolding writtenOf writeIf
+outside w room at e = rw e
+
+pub accepted : (w : List ℕ) (room at : ℕ) {ok : Bool} {v : List ℕ} {q : Answer ℕ} → ok ≡ true → v ≡ w → q ≡ writeAt v room at → q ≡ writeIf ok w room at
+unfolding writeIf
+accepted w room at e f j = rw (e, ← f) j
+
+pub standing : (w l : List ℕ) (at : ℕ) (q : Answer ℕ) {v o : List ℕ} → v ≡ w → o ≡ afterWrite q v l at → o ≡ afterWrite q w l at
+standing w l at q f j = rw (← f) j
+
+pub sent-same : (kept : Remembered) (w : List ℕ) {v : List ℕ} → v ≡ w → sent kept v ≡ sent kept w
+sent-same kept w e = ap (sent kept) e
+
+pub ruleset writings = (outside, accepted, standing, none-changed, sent-same)
 
 pub ruleset layings = (laying-none, laying-more, laying-end, past-end, no-room, all-laid, none-changed, all-changed)

@@ -1,6 +1,7 @@
 -- Bytes that are written.
 use Prim.Native.Nat.{ℕ, _+_, _≤_}
 use mathlib.Core.Path.{_≡_}
+use mathlib.Core.Bool.{Bool}
 use mathlib.Core.List.{List}
 use lib.ListN.{length, take}
 use lib.Seq.{sets}
@@ -29,6 +30,10 @@ sent kept w = w
 -- w from at on in so much room: all of it, or 7
 unfoldable pub writeAt : List ℕ → ℕ → ℕ → Answer ℕ
 writeAt w room at = pick (leb (at + length w) room) (done (at + length w)) (refused 7 0)
+
+-- "8 for .. a value .. outside its range .. then 7"
+unfoldable pub writeIf : (inside : Bool) → List ℕ → ℕ → ℕ → Answer ℕ
+writeIf inside w room at = pick inside (writeAt w room at) (refused 8 0)
 
 -- the lent bytes after an answer: w stands in them from at on and the rest is as it was, or nothing has changed
 unfoldable pub afterWrite : Answer ℕ → List ℕ → List ℕ → ℕ → List ℕ

@@ -1,5 +1,6 @@
 use lib.Seq.{length-take-le}
-use Rattle.numbers.proofs.Writing.{writings}
+use Rattle.refusals.proofs.Rules.{tests}
+use Rattle.wire.proofs.Laying.{writings}
 use borrow.Author.Needs.{needs}
 use Rattle.numbers.proofs.write_count.Statement.{statement}
 use Rattle.numbers.proofs.write_count.Tie as tie
@@ -10,7 +11,7 @@ use Rattle.wire.proofs.send.Reads as send-reads
 
 -- src/lib.rt:212:9
 returns : tie.Need-returns
-returns c = search (needs, writings)
+returns c = search (tests, writings)
 
 -- src/lib.rt:214:15
 cast-mag : tie.Need-cast-mag
@@ -22,7 +23,7 @@ spell-integer-requires c κs = search needs
 
 -- src/lib.rt:218:22
 array-share-prefix-bytes : tie.Need-array-share-prefix-bytes
-array-share-prefix-bytes c = search (needs, writings)
+array-share-prefix-bytes c = search (tests, writings)
 
 -- src/lib.rt:218:22
 slice-aggregate-send : tie.Need-slice-aggregate-send
@@ -38,7 +39,7 @@ same-length c = search needs
 
 -- src/lib.rt:208:1
 returns-2 : tie.Need-returns-2
-returns-2 c = search (needs, writings)
+returns-2 c = search (tests, writings)
 
 pub write-count-spec : {M : Type 1} → statement M
 write-count-spec =

@@ -1,5 +1,6 @@
 use lib.Seq.{length-take-le}
-use Rattle.numbers.proofs.Writing.{writings, under-limit}
+use Rattle.wire.proofs.Laying.{writings}
+use Rattle.numbers.proofs.Writing.{integers, under-limit}
 use borrow.Author.Needs.{needs}
 use Rattle.numbers.proofs.write_integer.Statement.{statement}
 use Rattle.numbers.proofs.write_integer.Tie as tie
@@ -25,15 +26,15 @@ limit-of-requires c κs = search needs
 
 -- src/lib.rt:199:9
 returns : tie.Need-returns
-returns c = search (needs, writings)
+returns c = search (needs, writings, integers)
 
 -- src/lib.rt:201:9
 spell-integer-requires : tie.Need-spell-integer-requires
-spell-integer-requires c κs = search (needs, writings, under-limit)
+spell-integer-requires c κs = search (needs, under-limit)
 
 -- src/lib.rt:204:22
 array-share-prefix-bytes : tie.Need-array-share-prefix-bytes
-array-share-prefix-bytes c = search (needs, writings, under-limit)
+array-share-prefix-bytes c = search (needs, under-limit)
 
 -- src/lib.rt:204:22
 slice-aggregate-send : tie.Need-slice-aggregate-send
@@ -49,7 +50,7 @@ same-length c = search needs
 
 -- src/lib.rt:193:1
 returns-2 : tie.Need-returns-2
-returns-2 c = search (needs, writings)
+returns-2 c = search (needs, writings, integers)
 
 pub write-integer-spec : {M : Type 1} → statement M
 write-integer-spec =

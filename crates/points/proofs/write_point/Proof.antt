@@ -1,5 +1,6 @@
 use lib.Seq.{length-take-le}
-use Rattle.points.proofs.Spelling.{writings}
+use Rattle.wire.proofs.Laying.{writings}
+use Rattle.points.proofs.Spelling.{points}
 use Rattle.points.proofs.Stepping.{tested-first, tested-second}
 use borrow.Author.Needs.{needs}
 use Rattle.points.proofs.write_point.Statement.{statement}
@@ -26,11 +27,11 @@ both-requires c κs = search needs
 
 -- src/lib.rt:274:23
 bytes-of-requires : tie.Need-bytes-of-requires
-bytes-of-requires c κs = search (needs, writings, tested-first, tested-second, length-take-le)
+bytes-of-requires c κs = search (needs, tested-first, tested-second)
 
 -- src/lib.rt:274:45
 bytes-of-requires-2 : tie.Need-bytes-of-requires-2
-bytes-of-requires-2 c κs = search (needs, writings, tested-first, tested-second, length-take-le)
+bytes-of-requires-2 c κs = search (needs, tested-first, tested-second)
 
 -- src/lib.rt:274:13
 spell-requires : tie.Need-spell-requires
@@ -42,7 +43,7 @@ array-share-prefix-bytes c = search needs
 
 -- src/lib.rt:277:33
 slice-aggregate-send : tie.Need-slice-aggregate-send
-slice-aggregate-send c = search (needs, writings, tested-first, tested-second, length-take-le)
+slice-aggregate-send c = search (needs, length-take-le)
 
 -- src/lib.rt:277:9
 send-requires : tie.Need-send-requires
@@ -54,11 +55,11 @@ same-length c = search needs
 
 -- src/lib.rt:277:9
 returns : tie.Need-returns
-returns c = search (needs, writings, tested-first, tested-second, length-take-le)
+returns c = search (needs, writings, points)
 
 -- src/lib.rt:269:1
 returns-2 : tie.Need-returns-2
-returns-2 c = search (needs, writings, tested-first, tested-second, length-take-le)
+returns-2 c = search (needs, writings, points)
 
 pub write-point-spec : {M : Type 1} → statement M
 write-point-spec =
