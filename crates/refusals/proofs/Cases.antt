@@ -29,3 +29,8 @@ is-done P h = h
 pub not-done : {A : Type 0} (P : A → Type 0) (e p : ℕ) → Done P (refused e p)
 unfolding Done
 not-done P e p = tt
+
+pub done-map : {A : Type 0} {P Q : A → Type 0} → ((x : A) → P x → Q x) → (a : Answer A) → Done P a → Done Q a
+unfolding Done
+done-map f (done x) h = f x h
+done-map f (refused e p) h = tt
