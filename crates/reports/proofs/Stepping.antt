@@ -136,8 +136,8 @@ ends s zero at h = is-done (Ends s 0 at) (omega arith, omega arith)
 ends s (suc k) at h =
     by-then (Done (Ends s (suc k) at)) (within 32 127 s at) _
     (λ c g.
-        let t = stood-of 32 127 s at g in
-        done-map (λ n e. (omega (arith, e .0, t .next-is), omega (arith, e .1, t .next-is))) (charactersEnd k s (c .next)) (ends s k (c .next) (omega (arith, t .next-is, t .inside))))
+    let t = stood-of 32 127 s at g in
+    done-map (λ n e. (omega (arith, e .0, t .next-is), omega (arith, e .1, t .next-is))) (charactersEnd k s (c .next)) (ends s k (c .next) (omega (arith, t .next-is, t .inside))))
     (λ x p g. not-done (Ends s (suc k) at) x p)
 
 pub run-within : (k : ℕ) (s : List ℕ) (at n : ℕ) → at ≤ length s → charactersEnd k s at ≡ done n → (n ≡ at + k) × (at + k ≤ length s)
@@ -157,10 +157,10 @@ three s at =
     (λ a f. by-then (Done (Three s at)) (within 32 95 s (a .next)) _
     (λ b g. by-then (Done (Three s at)) (within 32 63 s (b .next)) _
     (λ c h.
-        let x = stood-of 32 95 s at f in
-        let y = stood-of 32 95 s (a .next) g in
-        let z = stood-of 32 63 s (b .next) h in
-        is-done (Three s at) (omega (arith, x .next-is, y .next-is, z .next-is), omega (arith, x .next-is, y .next-is, z .inside)))
+    let x = stood-of 32 95 s at f in
+    let y = stood-of 32 95 s (a .next) g in
+    let z = stood-of 32 63 s (b .next) h in
+    is-done (Three s at) (omega (arith, x .next-is, y .next-is, z .next-is), omega (arith, x .next-is, y .next-is, z .inside)))
     (λ e p h. not-done (Three s at) e p))
     (λ e p g. not-done (Three s at) e p))
     (λ e p f. not-done (Three s at) e p))

@@ -107,10 +107,10 @@ byte-took kept s at =
     (λ v. by-pick (Done (Took s at)) (ltb 127 (getD s at 0)) _ _
     (λ x. not-done (Took s at) 3 at)
     (λ x.
-        let h : at < length s = ltb-true at (length s) t in
-        let l : 32 ≤ getD s at 0 = ltb-false (getD s at 0) 32 v in
-        let m : getD s at 0 ≤ 127 = ltb-false 127 (getD s at 0) x in
-        is-done (Took s at) (record { forward = omega arith; within = omega arith; least = l; most = m; from = omega arith; behind = omega arith })))))
+    let h : at < length s = ltb-true at (length s) t in
+    let l : 32 ≤ getD s at 0 = ltb-false (getD s at 0) 32 v in
+    let m : getD s at 0 ≤ 127 = ltb-false 127 (getD s at 0) x in
+    is-done (Took s at) (record { forward = omega arith; within = omega arith; least = l; most = m; from = omega arith; behind = omega arith })))))
     (λ t. not-done (Took s at) 1 (length s))
 
 pub took : (kept : Remembered) (s : List ℕ) (at : ℕ) {r : Read ℕ} → byteAt kept s at ≡ done r → Took s at r
