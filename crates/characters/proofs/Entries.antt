@@ -13,11 +13,9 @@ use lib.IntN.{ℤ, pos, negsuc, natAbs}
 use mir.Syntax.{w32}
 use mir.Val.{SFits, toZ, ofZ}
 use mir.Facts.{toZ-ofZ}
+use Rattle.refusals.proofs.Cases.{zero-one}
 use Rattle.numbers.specs.Integers.{isNegative}
 use Rattle.characters.specs.Characters.{isCharacter, areCharacters}
-
-zero-one : _≡_ {A = ℕ} 0 1 → ⊥
-zero-one k = omega arith
 
 by-size : (v : ℤ) → isNegative v ≡ false → isCharacter v ≡ leb 32 (natAbs v) && leb (natAbs v) 127
 by-size (pos n) e = refl

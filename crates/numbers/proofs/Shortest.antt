@@ -10,7 +10,7 @@ use lib.ListN.{length, length-append}
 use lib.IntN.{ℤ, pos, negsuc, natAbs}
 use Rattle.memory.specs.declared.Remembered.{Remembered}
 use Rattle.refusals.specs.Answers.{Answer, done, refused, Read}
-use Rattle.refusals.proofs.Cases.{by-pick, by-then, Done, done-of, is-done, not-done}
+use Rattle.refusals.proofs.Cases.{by-pick, by-then, Done, done-of, is-done, not-done, zero-one}
 use Rattle.wire.specs.Taking.{byteAt}
 use Rattle.wire.specs.Sending.{sent}
 use Rattle.wire.proofs.Feeds.{took}
@@ -115,9 +115,6 @@ pub record Counted (kept : Remembered) (s : List ℕ) (at : ℕ) (r : Read ℕ) 
   pub shortest : at + length (sent kept (spell (pos (r .value)))) ≤ r .next
   pub forward : at < r .next
   pub within : r .next ≤ length s
-
-zero-one : _≡_ {A = ℕ} 0 1 → ⊥
-zero-one k = omega arith
 
 -- a count is spelled as the integer that it is
 as-spelled : (kept : Remembered) (v : ℤ) (at n : ℕ) → isNegative v ≡ false → at + length (sent kept (spell v)) ≤ n → at + length (sent kept (spell (pos (natAbs v)))) ≤ n

@@ -10,6 +10,7 @@ use lib.IntN.{ℤ, pos, negsuc, negℤ, natAbs, _+ℤ_, _-ℤ_, +ℤ-idl, +ℤ-o
 use mir.Syntax.{Width, w8, w16, w32, w64, w128}
 use mir.Val.{SFits, Fits, toZ, ofZ, hbits}
 use mir.Facts.{toZ-pos, toZ-ofZ, fits-ofZ, fits-natAbs}
+use Rattle.refusals.proofs.Cases.{zero-one}
 use Rattle.numbers.specs.Integers.{isNegative}
 
 -- ---- from a magnitude to a number
@@ -33,9 +34,6 @@ test-is (negsuc n) = refl
 
 pub sign-is : (w : Width) (z : ℤ) → SFits w z → ltZ (toZ w (ofZ w z)) (pos 0) ≡ isNegative z
 sign-is w z f = rw (toZ-ofZ f) (test-is z)
-
-zero-one : _≡_ {A = ℕ} 0 1 → ⊥
-zero-one e = omega arith
 
 -- ---- from a number to its magnitude
 

@@ -11,7 +11,7 @@ use Rattle.memory.specs.declared.Point.{Point}
 use Rattle.memory.specs.declared.Remembered.{Remembered}
 use Rattle.memory.specs.Memory.{inside}
 use Rattle.refusals.specs.Answers.{Answer, done, refused, Read}
-use Rattle.refusals.proofs.Cases.{by-pick, Done, done-of, done-map, is-done, not-done}
+use Rattle.refusals.proofs.Cases.{by-pick, Done, done-of, is-done, not-done, bool-apart}
 use Rattle.wire.specs.Sending.{sent}
 use Rattle.wire.proofs.Feeds.{Took}
 use Rattle.points.specs.declared.PointBytes.{PointBytes}
@@ -21,9 +21,6 @@ use Rattle.points.specs.Writing.{part, spellBytes, spellPoint}
 use Rattle.points.proofs.Stepping.{insides}
 use Rattle.points.proofs.ByKind.{by-kind}
 use Rattle.points.proofs.RoundTrip.{From, Kinds, kinds-of, regroup}
-
-bool-apart : false ≡ true → ⊥
-bool-apart e = let z : _≡_ {A = ℕ} 0 1 = cc in omega arith
 
 -- ---- how long a spelling is at most
 

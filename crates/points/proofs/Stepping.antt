@@ -12,6 +12,7 @@ use Rattle.memory.specs.Memory.{inside}
 use Rattle.refusals.specs.declared.Refusal.{Refusal}
 use Rattle.refusals.specs.declared.Refusal.the-variants.{ByteNotAllowed, NotValid}
 use Rattle.refusals.specs.Answers.{Answer, Read, refused}
+use Rattle.refusals.proofs.Cases.{and-left, and-right}
 use Rattle.wire.specs.declared.ByteRead.{ByteRead}
 use Rattle.wire.specs.declared.ByteRead.the-variants.{Byte, NoByte}
 use Rattle.wire.specs.Taking.{byteAt, byteOf}
@@ -59,14 +60,6 @@ made-of b ex ey = rw (ex, ey)
 pub ending : (b : PointBytes) (v p n : ℕ) {x : Point} → x ≡ coordinates (withLoX b v) → pointOf (At x p n) ≡ endsAt b v p n
 unfolding pointOf endsAt
 ending b v p n e = rw e
-
-and-left : (a b : Bool) → a && b ≡ true → a ≡ true
-and-left true b e = refl
-and-left false b e = e
-
-and-right : (a b : Bool) → a && b ≡ true → b ≡ true
-and-right true b e = e
-and-right false b e = let z : true ≡ false = sym e in cc
 
 pub insides : (p : Point) → inside p ≡ true → Inside p
 insides p e = record {

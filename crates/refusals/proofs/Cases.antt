@@ -1,8 +1,9 @@
 -- Going by the cases of a definition: what holds in each case holds of the whole. A law on what reading gives is proved by these,
 -- with no test taken apart by hand.
 use Prim.Native.Nat.{ℕ}
-use mathlib.Core.Path.{_≡_, refl, subst}
-use mathlib.Core.Bool.{Bool, true, false}
+use mathlib.Core.Path.{_≡_, refl, sym, subst}
+use mathlib.Core.Bool.{Bool, true, false, _&&_}
+use native.Mathlib.Omega.{arith}
 use Rattle.refusals.specs.Answers.{Answer, done, refused, then, pick}
 
 pub by-pick : {A : Type 0} (P : A → Type 0) (b : Bool) (x y : A) → (b ≡ true → P x) → (b ≡ false → P y) → P (pick b x y)
@@ -34,3 +35,19 @@ pub done-map : {A : Type 0} {P Q : A → Type 0} → ((x : A) → P x → Q x) �
 unfolding Done
 done-map f (done x) h = f x h
 done-map f (refused e p) h = tt
+
+-- ---- truth values and numbers that cannot be
+
+pub and-left : (a b : Bool) → a && b ≡ true → a ≡ true
+and-left true b e = refl
+and-left false b e = e
+
+pub and-right : (a b : Bool) → a && b ≡ true → b ≡ true
+and-right true b e = e
+and-right false b e = let z : true ≡ false = sym e in cc
+
+pub zero-one : _≡_ {A = ℕ} 0 1 → ⊥
+zero-one e = omega arith
+
+pub bool-apart : false ≡ true → ⊥
+bool-apart e = let z : _≡_ {A = ℕ} 0 1 = cc in omega arith

@@ -10,6 +10,7 @@ use lib.Dec.{leb}
 use lib.ListN.{length, getD, take, drop, set, length-set, drop-of-length-le}
 use lib.Seq.{sets, drop-cons}
 use lib.IntN.{ℤ, pos, negsuc, natAbs}
+use Rattle.refusals.proofs.Cases.{and-left, and-right, zero-one}
 use Rattle.characters.specs.Characters.{isCharacter, areCharacters, bytesOf}
 use Rattle.reports.specs.Reading.{entriesAt}
 
@@ -28,7 +29,7 @@ filling-none s at count l h r =
     let y : at + 0 ≡ at = omega arith in
     record { upto = omega arith; stand = h; room = r; long = refl; whole = rw (z, y) }
 
-next-entry : (k : ℕ) (s : List ℕ) (at : ℕ) → at < length s → entriesAt (suc k) s at ≡ pos (getD s at 0) ∷ entriesAt k s (at + 1)
+pub next-entry : (k : ℕ) (s : List ℕ) (at : ℕ) → at < length s → entriesAt (suc k) s at ≡ pos (getD s at 0) ∷ entriesAt k s (at + 1)
 next-entry k s at h = rw (drop-cons s at 0 h, add-one at)
 
 pub filling-more : (s : List ℕ) (at count : ℕ) (l₀ l : List ℤ) (i : ℕ) (x : ℤ) → Filling s at count l₀ l i → i < count → x ≡ pos (getD s (at + i) 0) → Filling s at count l₀ (set l i x) (i + 1)
@@ -65,20 +66,9 @@ emptying-none list out at e h =
     let y : at + 0 ≡ at = omega arith in
     record { upto = omega arith; ok = e; room = h; long = refl; whole = rw y }
 
-and-left : (a b : Bool) → a && b ≡ true → a ≡ true
-and-left true b e = refl
-and-left false b e = e
-
-and-right : (a b : Bool) → a && b ≡ true → b ≡ true
-and-right true b e = e
-and-right false b e = let z : true ≡ false = sym e in cc
-
-head-of : (v : ℤ) (vs : List ℤ) → areCharacters (v ∷ vs) ≡ true → (isCharacter v ≡ true) × (areCharacters vs ≡ true)
+pub head-of : (v : ℤ) (vs : List ℤ) → areCharacters (v ∷ vs) ≡ true → (isCharacter v ≡ true) × (areCharacters vs ≡ true)
 unfolding areCharacters
 head-of v vs e = (and-left (isCharacter v) (areCharacters vs) e, and-right (isCharacter v) (areCharacters vs) e)
-
-zero-one : _≡_ {A = ℕ} 0 1 → ⊥
-zero-one k = omega arith
 
 -- a character is a byte
 a-byte : (v : ℤ) → isCharacter v ≡ true → natAbs v % 256 ≡ natAbs v

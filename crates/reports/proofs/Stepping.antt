@@ -145,10 +145,10 @@ unfolding Ends
 run-within k s at n h e = done-of (Ends s k at) (ends s k at h) e
 
 -- a report that was read took three bytes
-Three : List ℕ → ℕ → Read ℤ → Type 0
+unfoldable pub Three : List ℕ → ℕ → Read ℤ → Type 0
 Three s at r = (r .next ≡ at + 3) × (at + 3 ≤ length s)
 
-three : (s : List ℕ) (at : ℕ) → Done (Three s at) (reportAt s at)
+pub three : (s : List ℕ) (at : ℕ) → Done (Three s at) (reportAt s at)
 unfolding reportAt reportFrom Three
 three s at =
     by-pick (Done (Three s at)) (ltb (length s) at) _ _
@@ -170,7 +170,7 @@ unfolding Three
 three-bytes s at e = done-of (Three s at) (three s at) e
 
 -- a count keeps the place behind its integer
-behind : (most : ℕ) (P : ℕ → Type 0) (a : Answer (Read ℤ)) → Done (λ r. P (r .next)) a → Done (λ r. P (r .next)) (countIn most a)
+pub behind : (most : ℕ) (P : ℕ → Type 0) (a : Answer (Read ℤ)) → Done (λ r. P (r .next)) a → Done (λ r. P (r .next)) (countIn most a)
 unfolding countIn Done
 behind most P (done i) h =
     by-pick (Done (λ r. P (r .next))) (isNegative (i .value)) _ _

@@ -16,7 +16,7 @@ integer-from-requires c κs = search needs
 
 -- src/lib.rt:85:1
 returns-2 : tie.Need-returns-2
-returns-2 c = search (needs, start-past, start-inside)
+returns-2 c = search (needs, start-inside)
 
 pub read-integer-spec : {M : Type 1} → statement M
 read-integer-spec = tie.close (tie.spec returns integer-from-requires returns-2)

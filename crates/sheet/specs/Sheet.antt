@@ -1,0 +1,54 @@
+-- "Sheet of set values. Proved as one table with one claim": what the definitions give beside what the paper says.
+use Prim.Native.Nat.{ℕ}
+use mathlib.Core.Path.{_≡_, refl}
+use mathlib.Core.List.{List, [], _∷_, map}
+use lib.IntN.{ℤ, pos, negsuc}
+use Rattle.memory.specs.declared.Point.{Point}
+use Rattle.memory.specs.Memory.{freshMemory}
+use Rattle.refusals.specs.Answers.{number}
+use Rattle.wire.specs.Taking.{byteAt, pairAt}
+use Rattle.numbers.specs.Integers.{spell, spellOf, highsOf, integerAt, integerFrom}
+use Rattle.points.specs.Writing.{spellPoint, spellBytes}
+
+pub record Row : Type 0 where
+  pub given : List ℕ
+  pub paper : List ℕ
+
+abbrev integer : ℤ → List ℕ → Row
+integer v bytes = record { given = spell v; paper = bytes }
+
+-- the refusal's number where the bytes are read as an integer from a fresh remembered point
+abbrev refusal : List ℕ → ℕ → Row
+refusal bytes n = record { given = number (integerAt freshMemory bytes 0) ∷ []; paper = n ∷ [] }
+
+abbrev point : (last this : Point) → List ℕ → Row
+point last this bytes = record { given = spellPoint last this; paper = bytes }
+
+abbrev at : ℕ → ℕ → Point
+at x y = record { x = x; y = y }
+
+abbrev pub sheet : List Row
+sheet =
+    integer (pos 0) (48 ∷ [])
+    ∷ integer (negsuc 0) (33 ∷ [])
+    ∷ integer (pos 15) (63 ∷ [])
+    ∷ integer (negsuc 15) (65 ∷ 32 ∷ [])
+    ∷ integer (pos 32767) (95 ∷ 127 ∷ 63 ∷ [])
+    ∷ integer (negsuc 32767) (96 ∷ 64 ∷ 32 ∷ [])
+    ∷ refusal (96 ∷ 64 ∷ 48 ∷ []) 4
+    ∷ point (at 0 0) (at 128 0) (96 ∷ 33 ∷ 64 ∷ [])
+    ∷ point (at 0 0) (at 1 0) (97 ∷ 96 ∷ 64 ∷ [])
+    ∷ point (at 0 0) (at 4095 3071) (55 ∷ 111 ∷ 127 ∷ 63 ∷ 95 ∷ [])
+    ∷ point (at 4095 3071) (at 4095 3071) (95 ∷ [])
+    ∷ []
+
+abbrev given-of : Row → List ℕ
+given-of r = r .given
+
+abbrev paper-of : Row → List ℕ
+paper-of r = r .paper
+
+-- the one claim
+pub all-as-set : map given-of sheet ≡ map paper-of sheet
+unfolding spellOf highsOf integerFrom byteAt pairAt spellBytes
+all-as-set = refl
