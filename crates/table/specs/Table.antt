@@ -1,0 +1,72 @@
+-- Document 01, "The commands": the letters of each and its kind of parameters. NL stands where document 01 prints NX, since "if an op
+-- letter below differs from the summary table of document 000, the table wins".
+use Prim.Native.Nat.{ℕ}
+use mathlib.Core.Bool.{Bool, false, _&&_, _||_}
+use mathlib.Core.List.{List, [], _∷_}
+use lib.Dec.{eqb}
+use Rattle.table.specs.declared.Kind.{Kind}
+use Rattle.table.specs.declared.Kind.the-variants.{AnInteger, TwoIntegers, ThreeIntegers, APoint, TwoPoints, AReal, AString, AnArray, IntegerThenArray, IntegerThenString, TwoCharacters}
+use Rattle.table.specs.declared.Found.{Found}
+use Rattle.table.specs.declared.Found.the-variants.{Is, NoKind}
+
+pub record Row : Type 0 where
+  pub first : ℕ
+  pub second : ℕ
+  pub kind : Kind
+
+abbrev pub command : ℕ → ℕ → Kind → Row
+command a b k = record { first = a; second = b; kind = k }
+
+abbrev pub table : List Row
+table =
+    -- "one integer": KA KH KI KX LL LV NL
+    command 75 65 AnInteger
+    ∷ command 75 72 AnInteger
+    ∷ command 75 73 AnInteger
+    ∷ command 75 88 AnInteger
+    ∷ command 76 76 AnInteger
+    ∷ command 76 86 AnInteger
+    ∷ command 78 76 AnInteger
+    -- "two integers / three": NR / RU
+    ∷ command 78 82 TwoIntegers
+    ∷ command 82 85 ThreeIntegers
+    -- "one point / two points": LF LG RH / RS
+    ∷ command 76 70 APoint
+    ∷ command 76 71 APoint
+    ∷ command 82 72 APoint
+    ∷ command 82 83 TwoPoints
+    -- "real": MR
+    ∷ command 77 82 AReal
+    -- "string": LT
+    ∷ command 76 84 AString
+    -- "integer array": RD RL
+    ∷ command 82 68 AnArray
+    ∷ command 82 76 AnArray
+    -- "integer, then integer array": KD KO
+    ∷ command 75 68 IntegerThenArray
+    ∷ command 75 79 IntegerThenArray
+    -- "integer, then string": RP
+    ∷ command 82 80 IntegerThenString
+    -- "two characters, each 32 to 127": IQ
+    ∷ command 73 81 TwoCharacters
+    ∷ []
+
+abbrev pub pickFound : Bool → Found → Found → Found
+pickFound Bool.true a b = a
+pickFound Bool.false a b = b
+
+-- the kind of the first entry with these letters
+abbrev pub kindIn : List Row → ℕ → ℕ → Found
+kindIn [] a b = NoKind
+kindIn (e ∷ es) a b = pickFound (eqb a (e .first) && eqb b (e .second)) (Is (e .kind)) (kindIn es a b)
+
+unfoldable pub kindOf : ℕ → ℕ → Found
+kindOf a b = kindIn table a b
+
+-- "a first letter that begins no command"
+abbrev pub beginsIn : List Row → ℕ → Bool
+beginsIn [] a = false
+beginsIn (e ∷ es) a = eqb a (e .first) || beginsIn es a
+
+unfoldable pub begins : ℕ → Bool
+begins a = beginsIn table a
