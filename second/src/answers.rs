@@ -1,9 +1,10 @@
 //! What readings and writings answer.
 
-/// The refusals of document 01 that reading and writing numbers can give, under the paper's own numbers.
+/// The refusals of document 01 that reading and writing can give, under the paper's own numbers.
 #[derive(Clone, Copy, Debug, PartialEq, Eq)]
 pub enum Refusal {
     BytesEnd = 1,
+    UnknownCommand = 2,
     ByteNotAllowed = 3,
     /// A third high byte, or an integer out of range.
     IntegerWrong = 4,
@@ -41,7 +42,20 @@ pub struct Found<T> {
     pub next: usize,
 }
 
+impl<T> Found<T> {
+    pub fn map<U>(self, make: impl FnOnce(T) -> U) -> Found<U> {
+        Found {
+            value: make(self.value),
+            last: self.last,
+            next: self.next,
+        }
+    }
+}
+
 pub type Reading<T> = Result<Found<T>, ReadingRefused>;
+
+/// The bytes that stand for a value, or the refusal.
+pub type Spelling = Result<Vec<u8>, Refusal>;
 
 /// The place after the last byte written, or the refusal.
 pub type Writing = Result<usize, Refusal>;

@@ -1,6 +1,6 @@
 //! Integers and counts as parameters of commands.
 
-use crate::answers::{put, Found, Reading, Refusal, Writing};
+use crate::answers::{put, Found, Reading, Refusal, Spelling, Writing};
 use crate::parameters::next_byte;
 
 const SMALLEST: i32 = -32768;
@@ -49,14 +49,14 @@ pub fn low_byte_of(value: i32) -> u8 {
 }
 
 pub fn write_integer(value: i32, bytes: &mut [u8], place: usize) -> Writing {
-    if !(SMALLEST..=GREATEST).contains(&value) {
-        return Err(Refusal::OutOfRange);
-    }
-    put(&spell_integer(value), bytes, place)
+    put(&spell_integer(value)?, bytes, place)
 }
 
 /// "Leading high bytes of value 0 are accepted and never written."
-fn spell_integer(value: i32) -> Vec<u8> {
+pub fn spell_integer(value: i32) -> Spelling {
+    if !(SMALLEST..=GREATEST).contains(&value) {
+        return Err(Refusal::OutOfRange);
+    }
     let high = value.unsigned_abs() / 16;
     let mut spelling = Vec::with_capacity(MOST_HIGH_BYTES + 1);
     if high >= 64 {
@@ -66,7 +66,7 @@ fn spell_integer(value: i32) -> Vec<u8> {
         spelling.push(64 + (high % 64) as u8);
     }
     spelling.push(low_byte_of(value));
-    spelling
+    Ok(spelling)
 }
 
 /// "A count is an integer 0..256." Of the refusals at one byte, 4 comes before 5.
@@ -89,10 +89,14 @@ pub fn count_from(value: i32) -> Option<u32> {
 }
 
 pub fn write_count(count: u32, bytes: &mut [u8], place: usize) -> Writing {
+    put(&spell_count(count)?, bytes, place)
+}
+
+pub fn spell_count(count: u32) -> Spelling {
     if count > GREATEST_COUNT {
         return Err(Refusal::OutOfRange);
     }
-    put(&spell_integer(count as i32), bytes, place)
+    spell_integer(count as i32)
 }
 
 #[cfg(test)]

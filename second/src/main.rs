@@ -2,13 +2,20 @@
 
 mod answers;
 mod blocks;
+mod commands;
 mod digest;
+mod draws;
+mod forms;
 mod integers;
+mod items;
+mod lister;
+mod made;
 mod parameters;
 mod points;
 mod ranges;
 mod reports;
 mod spellings;
+mod streams;
 mod table;
 mod values;
 mod vectors;
@@ -19,7 +26,9 @@ use std::process::ExitCode;
 
 const COMMANDS: &str = "\
 commands:
-  second vectors < table    run all blocks of docs/VECTORS.md and print their lines";
+  second vectors < table    run all blocks of docs/VECTORS.md and print their lines
+  second list < bytes       print a line for each item of up to 4,096 bytes
+  second streams            make and list all streams of docs/STREAMS.md and print a line for each block";
 
 const FAILED: u8 = 1;
 const NOT_A_COMMAND: u8 = 2;
@@ -32,6 +41,8 @@ fn main() -> ExitCode {
     let arguments: Vec<&str> = arguments.iter().map(String::as_str).collect();
     match arguments.as_slice() {
         ["vectors"] => status_of(vectors::run()),
+        ["list"] => status_of(lister::run()),
+        ["streams"] => status_of(streams::run()),
         _ => {
             eprintln!("{COMMANDS}");
             ExitCode::from(NOT_A_COMMAND)

@@ -2,7 +2,7 @@
 
 use crate::answers::{ReadingRefused, Refusal};
 
-const ESC: u8 = 27;
+pub const ESC: u8 = 27;
 const DEL: u8 = 127;
 const PAIR_END: u8 = 63;
 

@@ -1,6 +1,6 @@
 //! Points as parameters of commands, each spelled against the last one.
 
-use crate::answers::{put, Found, Reading, Refusal, Writing};
+use crate::answers::{put, Found, Reading, Refusal, Spelling, Writing};
 use crate::parameters::next_byte;
 
 const GREATEST: u32 = 4095;
@@ -12,7 +12,10 @@ pub struct Point {
 }
 
 impl Point {
-    fn in_range(self) -> bool {
+    /// "A fresh remembered point is (0,0)."
+    pub const FRESH: Point = Point { x: 0, y: 0 };
+
+    pub fn in_range(self) -> bool {
         self.x <= GREATEST && self.y <= GREATEST
     }
 }
@@ -104,14 +107,14 @@ pub fn read_point(bytes: &[u8], start: usize, remembered: Point) -> Reading<Poin
 }
 
 pub fn write_point(point: Point, remembered: Point, bytes: &mut [u8], place: usize) -> Writing {
-    if !point.in_range() || !remembered.in_range() {
-        return Err(Refusal::OutOfRange);
-    }
-    put(&spell_point(point, remembered), bytes, place)
+    put(&spell_point(point, remembered)?, bytes, place)
 }
 
 /// "The writer leaves out all that it may."
-fn spell_point(point: Point, remembered: Point) -> Vec<u8> {
+pub fn spell_point(point: Point, remembered: Point) -> Spelling {
+    if !point.in_range() || !remembered.in_range() {
+        return Err(Refusal::OutOfRange);
+    }
     let new = Parts::of(point);
     let old = Parts::of(remembered);
     let needs_extra = new.extra != old.extra;
@@ -133,7 +136,7 @@ fn spell_point(point: Point, remembered: Point) -> Vec<u8> {
         spelling.push(32 + new.hi_x);
     }
     spelling.push(64 + new.lo_x);
-    spelling
+    Ok(spelling)
 }
 
 #[cfg(test)]

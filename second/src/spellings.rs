@@ -90,13 +90,12 @@ pub fn six_bytes() -> Block {
 
 pub fn starts() -> Block {
     const BYTES: [u8; 6] = [65, 48, 32, 69, 56, 27];
-    const FRESH: Point = Point { x: 0, y: 0 };
     let mut block = Block::new("starts");
     for start in 0..=9 {
         let digest = block.case();
         digest.reading(read_integer(&BYTES, start), Digest::signed);
         digest.reading(read_count(&BYTES, start), Digest::number);
-        digest.reading(read_point(&BYTES, start, FRESH), Digest::point);
+        digest.reading(read_point(&BYTES, start, Point::FRESH), Digest::point);
         digest.reading(read_integer_report(&BYTES, start), Digest::signed);
     }
     block

@@ -16,3 +16,7 @@ limit = 4095
 -- "x and y 0..4095"
 abbrev pub inside : Point → Bool
 inside p = leb (p .x) limit && leb (p .y) limit
+
+-- what is remembered once this point has been read or written
+abbrev pub remember : Remembered → Point → Remembered
+remember kept p = record { point = p }

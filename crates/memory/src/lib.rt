@@ -1,6 +1,6 @@
 // What reading remembers from one command to the next, and writing likewise: one struct, handed on whole.
 ghost use mathlib.Core.Path.{_≡_};
-ghost use Rattle.memory.specs.Memory.{freshMemory, inside};
+ghost use Rattle.memory.specs.Memory.{freshMemory, inside, remember};
 
 pub struct Point {
     pub x: u16,
@@ -28,4 +28,13 @@ pub fn is_inside(point: Point) -> bool
         return false;
     }
     point.y <= 4095
+}
+
+// What is remembered once `point` has been read or written.
+pub fn with_point(kept: Remembered, point: Point) -> Remembered
+    ensures { λ r. ⌜ r ≡ remember kept point ⌝ }
+{
+    let mut after = kept;
+    after.point = point;
+    after
 }

@@ -2,3 +2,4 @@ pub mod Numbers
 pub mod Rules
 pub mod Cases
 pub mod Coinciding
+pub mod Many

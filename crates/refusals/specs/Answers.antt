@@ -1,7 +1,8 @@
 -- What a call gives back, as document 01 counts it: 0 and the call's values, or a refusal's number and its place.
-use Prim.Native.Nat.{ℕ}
+use Prim.Native.Nat.{ℕ, zero, suc}
 use mathlib.Core.Path.{_≡_}
 use mathlib.Core.Bool.{Bool, true, false}
+use mathlib.Core.List.{List, [], _∷_}
 
 pub data Answer (A : Type 0) : Type 0 where
   done : A → Answer A
@@ -26,6 +27,20 @@ then (refused e p) k = refused e p
 abbrev pub pick : {A : Type 0} → Bool → A → A → A
 pick true a b = a
 pick false a b = b
+
+-- k readings, one after the other: where they end, or the first refusal
+unfoldable pub endsAfter : {A : Type 0} → (ℕ → Answer (Read A)) → ℕ → ℕ → Answer ℕ
+endsAfter one zero at = done at
+endsAfter one (suc k) at = then (one at) (λ r. endsAfter one k (r .next))
+
+abbrev andOn : {A : Type 0} → Answer (Read A) → (ℕ → List A) → List A
+andOn (done r) k = r .value ∷ k (r .next)
+andOn (refused e p) k = []
+
+-- and what they give
+unfoldable pub allAfter : {A : Type 0} → (ℕ → Answer (Read A)) → ℕ → ℕ → List A
+allAfter one zero at = []
+allAfter one (suc k) at = andOn (one at) (λ n. allAfter one k n)
 
 -- the answer is that v was read and that reading goes on at n
 unfoldable pub Reads : {A : Type 0} → A → ℕ → Answer (Read A) → Type 0

@@ -9,7 +9,7 @@ use lib.Dec.{ltb, leb}
 use lib.ListN.{length, getD, take, drop, length-append, length-map, length-drop, length-take}
 use lib.Seq.{ext-getD, getD-take, getD-drop, length-take-le}
 use lib.IntN.{ℤ, pos, negsuc, natAbs}
-use Rattle.refusals.specs.Answers.{Answer, done, refused, Read, Reads}
+use Rattle.refusals.specs.Answers.{Answer, done, refused, Read, Reads, endsAfter}
 use Rattle.refusals.proofs.Cases.{and-left, and-right, zero-one}
 use Rattle.wire.proofs.Feeds.{Stands, stands-between, stands-left, stands-right}
 use Rattle.numbers.specs.Integers.{signedOf, isNegative, lowOf}
@@ -72,7 +72,7 @@ character-range (pos n) e =
 character-range (negsuc n) e = let k : _≡_ {A = ℕ} 0 1 = cc in absurd (zero-one k)
 
 run-back : (vs : List ℤ) (s : List ℕ) (at : ℕ) → areCharacters vs ≡ true → Stands s at (bytesOf vs) → charactersEnd (length vs) s at ≡ done (at + length vs)
-unfolding charactersEnd
+unfolding endsAfter
 run-back [] s at ok st = ap done (omega arith)
 run-back (v ∷ vs) s at ok st =
     let c = head-of v vs ok in

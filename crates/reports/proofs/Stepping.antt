@@ -11,8 +11,9 @@ use lib.Seq.{sets}
 use lib.IntN.{ℤ, natAbs}
 use Rattle.refusals.specs.declared.Refusal.{Refusal}
 use Rattle.refusals.specs.declared.Refusal.the-variants.{NotValid, TooShort}
-use Rattle.refusals.specs.Answers.{Answer, done, refused, Read}
+use Rattle.refusals.specs.Answers.{Answer, done, refused, Read, endsAfter}
 use Rattle.refusals.proofs.Cases.{by-pick, by-then, Done, done-of, done-map, is-done, not-done}
+use Rattle.refusals.proofs.Many.{passed-all, passed-one, passed-none}
 use Rattle.wire.specs.declared.ByteRead.{ByteRead}
 use Rattle.wire.specs.declared.ByteRead.the-variants.{Byte, NoByte}
 use Rattle.wire.specs.Taking.{byteOf}
@@ -104,25 +105,18 @@ start-inside s at h j = rw (le-ltb (length s) at h) j
 
 -- ---- a run of characters
 
-unrolled : (k : ℕ) (s : List ℕ) (at : ℕ) {q : Answer ℕ} → 0 < k → charactersEnd k s at ≡ q → charactersEnd (suc (k - 1)) s at ≡ q
-unrolled k s at h j = let z : suc (k - 1) ≡ k = omega arith in rw z j
-
 module _ (k : ℕ) (s : List ℕ) (at : ℕ) {q : Answer ℕ} where
   pub run-done : k ≤ 0 → charactersEnd k s at ≡ q → endOf (End at) ≡ q
-  unfolding charactersEnd endOf
-  run-done h j = sym (ap (λ (i : ℕ). charactersEnd i s at) z) ∙ j
-    where
-      z : k ≡ 0
-      z = omega arith
+  unfolding endOf
+  run-done h j = passed-all (within 32 127 s) k at h j
 
   module _ {r : ByteRead} (e : byteOf r ≡ within 32 127 s at) (h : 0 < k) (j : charactersEnd k s at ≡ q) where
     pub run-more : {b p n : ℕ} → r ≡ Byte b p n → charactersEnd (k - 1) s n ≡ q
-    unfolding charactersEnd byteOf
-    run-more g = rw (← e, g) at (unrolled k s at h j)
+    run-more g = passed-one (within 32 127 s) k at (given 32 127 s at e g) h j
 
     pub run-broken : {x : Refusal} {p : ℕ} → r ≡ NoByte x p → endOf (Broken x p) ≡ q
-    unfolding charactersEnd byteOf endOf
-    run-broken g = rw (← e, g) at (unrolled k s at h j)
+    unfolding byteOf endOf
+    run-broken g = passed-none (within 32 127 s) k at (sym e ∙ rw g) h j
 
 pub ruleset runs = (run-done, run-more, run-broken)
 
@@ -131,7 +125,7 @@ Ends : List ℕ → ℕ → ℕ → ℕ → Type 0
 Ends s k at n = (n ≡ at + k) × (at + k ≤ length s)
 
 ends : (s : List ℕ) (k at : ℕ) → at ≤ length s → Done (Ends s k at) (charactersEnd k s at)
-unfolding charactersEnd Ends
+unfolding endsAfter Ends
 ends s zero at h = is-done (Ends s 0 at) (omega arith, omega arith)
 ends s (suc k) at h =
     by-then (Done (Ends s (suc k) at)) (within 32 127 s at) _

@@ -1,14 +1,14 @@
 -- "An integer report is three bytes, high bytes 32..95 less 32 times 1024 and 16, and a low byte 32..63 as above. .. A string report is
 -- such a length, 0..256, then bytes 32..127. Reading either takes a start: 8 with place 0 if it is past the end, then 1, 3, 5 as for
 -- commands (27 is 3 here, and there are no pairs), then 7, at the start, only for a whole report."
-use Prim.Native.Nat.{ℕ, zero, suc, _+_, _-_, _*_, _%_}
+use Prim.Native.Nat.{ℕ, _+_, _-_, _*_, _%_}
 use mathlib.Core.List.{List}
 use lib.ListN.{length, getD, take, drop}
 use lib.Seq.{sets}
 use lib.Dec.{ltb, leb}
 use lib.IntN.{ℤ}
 use Rattle.refusals.specs.Refusals.{numberOf}
-use Rattle.refusals.specs.Answers.{Answer, done, refused, Read, then, pick}
+use Rattle.refusals.specs.Answers.{Answer, done, refused, Read, then, pick, endsAfter}
 use Rattle.numbers.specs.Integers.{signedOf}
 use Rattle.numbers.specs.Counts.{countIn}
 use Rattle.characters.specs.Characters.{entriesOf}
@@ -58,9 +58,8 @@ unfoldable pub endOf : RunEnd → Answer ℕ
 endOf (End n) = done n
 endOf (Broken e p) = refused (numberOf e) p
 
-unfoldable pub charactersEnd : ℕ → List ℕ → ℕ → Answer ℕ
-charactersEnd zero s at = done at
-charactersEnd (suc k) s at = then (within 32 127 s at) (λ c. charactersEnd k s (c .next))
+abbrev pub charactersEnd : ℕ → List ℕ → ℕ → Answer ℕ
+charactersEnd k s at = endsAfter (within 32 127 s) k at
 
 abbrev pub mostCharacters : ℕ
 mostCharacters = 256

@@ -1,0 +1,52 @@
+-- "A string is a count and that many bytes 32..127; an array is a count and that many integers."
+use Prim.Native.Nat.{ℕ}
+use mathlib.Core.List.{List}
+use lib.IntN.{ℤ, pos}
+use Rattle.memory.specs.declared.Remembered.{Remembered}
+use Rattle.refusals.specs.Refusals.{numberOf}
+use Rattle.refusals.specs.Answers.{Answer, done, refused, Read, then, endsAfter, allAfter}
+use Rattle.wire.specs.Taking.{byteAt}
+use Rattle.numbers.specs.Integers.{integerAt}
+use Rattle.numbers.specs.Counts.{countAt}
+use Rattle.parameters.specs.declared.Entry.{Entry}
+use Rattle.parameters.specs.declared.Entry.the-variants.{AnInteger, ACharacter}
+use Rattle.parameters.specs.declared.EntriesEnd.{EntriesEnd}
+use Rattle.parameters.specs.declared.EntriesEnd.the-variants.{End, Cut}
+use Rattle.parameters.specs.declared.RunRead.{RunRead}
+use Rattle.parameters.specs.declared.RunRead.the-variants.{Counted, Uncounted}
+
+abbrev pub asEntry : Read ℕ → Answer (Read ℤ)
+asEntry b = done (record { value = pos (b .value); place = b .place; next = b .next })
+
+-- one entry: an integer, or a character as a number
+unfoldable pub entryAt : Entry → Remembered → List ℕ → ℕ → Answer (Read ℤ)
+entryAt AnInteger kept s at = integerAt kept s at
+entryAt ACharacter kept s at = then (byteAt kept s at) asEntry
+
+-- k entries: where they end, or the first that is refused; and their values
+abbrev pub entriesEnd : Entry → Remembered → ℕ → List ℕ → ℕ → Answer ℕ
+entriesEnd e kept k s at = endsAfter (entryAt e kept s) k at
+
+abbrev pub entriesFrom : Entry → Remembered → ℕ → List ℕ → ℕ → List ℤ
+entriesFrom e kept k s at = allAfter (entryAt e kept s) k at
+
+-- what the code's answers say
+unfoldable pub endOf : EntriesEnd → Answer ℕ
+endOf (End n) = done n
+endOf (Cut e p) = refused (numberOf e) p
+
+-- where the entries of a counted list start, how many they are, and where reading goes on
+pub record Held : Type 0 where
+  pub start : ℕ
+  pub count : ℕ
+  pub next : ℕ
+
+unfoldable pub runOf : RunRead → Answer Held
+runOf (Counted r n) = done (record { start = r .start; count = r .count; next = n })
+runOf (Uncounted e p) = refused (numberOf e) p
+
+unfoldable pub runAt : Entry → Remembered → List ℕ → ℕ → Answer Held
+runAt e kept s at =
+    then (countAt kept s at)
+    (λ c. then (entriesEnd e kept (c .value) s (c .next))
+    (λ n. done (record { start = c .next; count = c .value; next = n })))

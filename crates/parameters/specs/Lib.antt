@@ -1,0 +1,3 @@
+pub mod Entries
+pub mod Shapes
+pub mod Looking

@@ -1,0 +1,74 @@
+-- Readings one after the other, as a turn of a loop takes one: what is left ends where the whole ends.
+use Prim.Native.Nat.{ℕ, zero, suc, _+_, _-_, _≤_, _<_}
+use mathlib.Core.Path.{_≡_, refl, sym, _∙_, ap}
+use mathlib.Core.List.{List, [], _∷_}
+use native.Mathlib.Omega.{arith}
+use native.Mathlib.Numerals.{add-one}
+use lib.ListN.{length, set, length-set}
+use lib.Seq.{sets, set-out}
+use Rattle.refusals.specs.Answers.{Answer, done, refused, Read, endsAfter, allAfter}
+
+-- nothing is stored past the end
+pub past-end : {A : Type 0} (l : List A) (i : ℕ) (w : List A) → length l ≤ i → sets l i w ≡ l
+past-end l i [] h = refl
+past-end l i (x ∷ w) h = ap (λ m. sets m (suc i) w) (set-out l i x h) ∙ past-end l (suc i) w (omega arith)
+
+module _ {A : Type 0} (one : ℕ → Answer (Read A)) where
+  -- ---- passing over
+
+  unrolled : (k at : ℕ) {q : Answer ℕ} → 0 < k → endsAfter one k at ≡ q → endsAfter one (suc (k - 1)) at ≡ q
+  unrolled k at h j = let z : suc (k - 1) ≡ k = omega arith in rw z j
+
+  pub passed-all : (k at : ℕ) {q : Answer ℕ} → k ≤ 0 → endsAfter one k at ≡ q → done at ≡ q
+  unfolding endsAfter
+  passed-all zero at h j = j
+  passed-all (suc k) at h j = absurd (omega arith)
+
+  pub passed-one : (k at : ℕ) {r : Read A} {q : Answer ℕ} → one at ≡ done r → 0 < k → endsAfter one k at ≡ q → endsAfter one (k - 1) (r .next) ≡ q
+  unfolding endsAfter
+  passed-one k at e h j = rw e at (unrolled k at h j)
+
+  pub passed-none : (k at : ℕ) {x p : ℕ} {q : Answer ℕ} → one at ≡ refused x p → 0 < k → endsAfter one k at ≡ q → refused x p ≡ q
+  unfolding endsAfter
+  passed-none k at e h j = rw e at (unrolled k at h j)
+
+  -- ---- filling a list
+
+  pub record Filling (at count : ℕ) (l₀ l : List A) (i pos : ℕ) : Type 0 where
+    pub upto : i ≤ count
+    pub long : length l ≡ length l₀
+    pub whole : sets l i (allAfter one (count - i) pos) ≡ sets l₀ 0 (allAfter one count at)
+
+  pub filling-none : (at count : ℕ) (l : List A) → Filling at count l l 0 at
+  filling-none at count l = let z : count - 0 ≡ count = omega arith in record { upto = omega arith; long = refl; whole = rw z }
+
+  cons-of : (k pos : ℕ) {r : Read A} → one pos ≡ done r → allAfter one (suc k) pos ≡ r .value ∷ allAfter one k (r .next)
+  unfolding allAfter
+  cons-of k pos e = rw e
+
+  nil-of : (k pos : ℕ) {x p : ℕ} → one pos ≡ refused x p → allAfter one k pos ≡ []
+  unfolding allAfter
+  nil-of zero pos e = refl
+  nil-of (suc k) pos e = rw e
+
+  pub filling-more : (at count : ℕ) (l₀ l : List A) (i pos : ℕ) {r : Read A} → Filling at count l₀ l i pos → i < count → one pos ≡ done r → Filling at count l₀ (set l i (r .value)) (i + 1) (r .next)
+  filling-more at count l₀ l i pos {r} f h e =
+      let z : count - i ≡ suc (count - (i + 1)) = omega arith in
+      let d = cons-of (count - (i + 1)) pos e in
+      record {
+        upto = omega arith;
+        long = length-set l i (r .value) ∙ f .long;
+        whole =
+            ap (λ (k : ℕ). sets (set l i (r .value)) k (allAfter one (count - (i + 1)) (r .next))) (add-one i)
+            ∙ (rw (z, d) at (f .whole));
+      }
+
+  pub filling-end : (at count : ℕ) (l₀ l : List A) (i pos : ℕ) → Filling at count l₀ l i pos → count ≤ i → l ≡ sets l₀ 0 (allAfter one count at)
+  unfolding allAfter
+  filling-end at count l₀ l i pos f h = let z : count - i ≡ 0 = omega arith in rw z at (f .whole)
+
+  pub filling-cut : (at count : ℕ) (l₀ l : List A) (i pos : ℕ) {x p : ℕ} → Filling at count l₀ l i pos → one pos ≡ refused x p → l ≡ sets l₀ 0 (allAfter one count at)
+  filling-cut at count l₀ l i pos f e = rw (nil-of (count - i) pos e) at (f .whole)
+
+  pub filling-full : (at count : ℕ) (l₀ l : List A) (i pos : ℕ) → Filling at count l₀ l i pos → length l ≤ i → l ≡ sets l₀ 0 (allAfter one count at)
+  filling-full at count l₀ l i pos f h = sym (past-end l i (allAfter one (count - i) pos) h) ∙ f .whole

@@ -1,0 +1,193 @@
+//! The items of a run of bytes: text, commands and refused commands.
+
+use crate::answers::ReadingRefused;
+use crate::commands::{read_command, Command};
+use crate::parameters::ESC;
+use crate::points::Point;
+
+#[derive(Clone, Debug, PartialEq, Eq)]
+pub enum Item {
+    Text {
+        place: usize,
+        byte: u8,
+    },
+    Command {
+        start: usize,
+        command: Command,
+    },
+    Refused {
+        start: usize,
+        refused: ReadingRefused,
+    },
+}
+
+/// All items of the bytes, taken as the whole, from a fresh remembered point on.
+pub fn items_of(bytes: &[u8]) -> Vec<Item> {
+    let mut items = Vec::new();
+    let mut remembered = Point::FRESH;
+    let mut place = 0;
+    while let Some(&byte) = bytes.get(place) {
+        let start = place;
+        if byte != ESC {
+            items.push(Item::Text { place, byte });
+            place += 1;
+            continue;
+        }
+        match read_command(bytes, start, remembered) {
+            Ok(found) => {
+                let command = found.value;
+                remembered = command.last_point().unwrap_or(remembered);
+                items.push(Item::Command { start, command });
+                place = found.next;
+            }
+            // "The remembered point after a refused command is that before it."
+            Err(refused) => {
+                items.push(Item::Refused { start, refused });
+                place = next_escape(bytes, refused.place);
+            }
+        }
+    }
+    items
+}
+
+/// "If the byte there is 27, reading starts again on it; otherwise bytes are passed over up to the next 27", or to the end
+/// where none follows.
+fn next_escape(bytes: &[u8], place: usize) -> usize {
+    let passed_over = bytes[place..].iter().take_while(|&&byte| byte != ESC);
+    place + passed_over.count()
+}
+
+#[cfg(test)]
+mod tests {
+    use super::*;
+    use crate::answers::Refusal;
+    use crate::commands::Value;
+
+    fn text(place: usize, byte: u8) -> Item {
+        Item::Text { place, byte }
+    }
+
+    fn one_value(start: usize, letters: &[u8; 2], value: Value) -> Item {
+        let command = Command {
+            letters: *letters,
+            values: vec![value],
+        };
+        Item::Command { start, command }
+    }
+
+    fn refused(start: usize, refusal: Refusal, place: usize) -> Item {
+        let refused = refusal.at(place);
+        Item::Refused { start, refused }
+    }
+
+    #[test]
+    fn no_bytes_are_no_items() {
+        assert_eq!(items_of(&[]), []);
+    }
+
+    #[test]
+    fn each_byte_but_27_is_text() {
+        let bytes: Vec<u8> = (0..=255).filter(|&byte| byte != ESC).collect();
+        let items = items_of(&bytes);
+        assert_eq!(items.len(), 255);
+        for (place, item) in items.iter().enumerate() {
+            assert_eq!(*item, text(place, bytes[place]));
+        }
+    }
+
+    #[test]
+    fn text_goes_on_behind_a_command() {
+        assert_eq!(
+            items_of(b"\x1bKA0A\x1bKA1"),
+            [
+                one_value(0, b"KA", Value::Integer(0)),
+                text(4, 65),
+                one_value(5, b"KA", Value::Integer(1)),
+            ]
+        );
+    }
+
+    #[test]
+    fn reading_starts_again_on_a_new_escape() {
+        assert_eq!(
+            items_of(b"\x1bKA@\x1bKA0"),
+            [
+                refused(0, Refusal::NewEscape, 4),
+                one_value(4, b"KA", Value::Integer(0)),
+            ]
+        );
+        assert_eq!(
+            items_of(&[ESC, ESC, ESC]),
+            [
+                refused(0, Refusal::NewEscape, 1),
+                refused(1, Refusal::NewEscape, 2),
+                refused(2, Refusal::BytesEnd, 3),
+            ]
+        );
+    }
+
+    #[test]
+    fn other_bytes_are_passed_over_up_to_the_next_escape() {
+        assert_eq!(
+            items_of(b"\x1bKZ012\x1bKA0"),
+            [
+                refused(0, Refusal::UnknownCommand, 2),
+                one_value(6, b"KA", Value::Integer(0)),
+            ]
+        );
+        assert_eq!(
+            items_of(b"\x1bKA@@@ABC"),
+            [refused(0, Refusal::IntegerWrong, 5)]
+        );
+        // A pair is none any more where a refused command has ended before it.
+        assert_eq!(
+            items_of(b"\x1bKA@@@\x1b?A"),
+            [
+                refused(0, Refusal::IntegerWrong, 5),
+                refused(6, Refusal::UnknownCommand, 7),
+            ]
+        );
+    }
+
+    #[test]
+    fn a_refused_pair_is_passed_over_from_its_63_on() {
+        assert_eq!(
+            items_of(b"\x1bKA@@\x1b?A\x1bKA0"),
+            [
+                refused(0, Refusal::IntegerWrong, 6),
+                one_value(8, b"KA", Value::Integer(0)),
+            ]
+        );
+    }
+
+    #[test]
+    fn a_27_that_ends_the_bytes_in_a_parameter_is_no_item_of_its_own() {
+        assert_eq!(items_of(b"\x1bKA@\x1b"), [refused(0, Refusal::BytesEnd, 5)]);
+    }
+
+    #[test]
+    fn the_last_point_is_remembered() {
+        let point = Value::Point(Point { x: 0, y: 100 });
+        assert_eq!(
+            items_of(b"\x1bLFy@A\x1bKA0\x1bLF@"),
+            [
+                one_value(0, b"LF", point.clone()),
+                text(5, 65),
+                one_value(6, b"KA", Value::Integer(0)),
+                one_value(10, b"LF", point),
+            ]
+        );
+    }
+
+    #[test]
+    fn a_refused_command_leaves_the_remembered_point() {
+        // RS with a whole first point (0,100) and a second that is not allowed.
+        assert_eq!(
+            items_of(b"\x1bRSy@\x01\x1bLF@"),
+            [
+                refused(0, Refusal::ByteNotAllowed, 5),
+                one_value(6, b"LF", Value::Point(Point::FRESH)),
+            ]
+        );
+    }
+}
