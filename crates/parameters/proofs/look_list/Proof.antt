@@ -1,3 +1,4 @@
+use Rattle.parameters.proofs.Looks.{runs}
 use borrow.Author.Needs.{needs}
 use Rattle.parameters.proofs.look_list.Statement.{statement}
 use Rattle.parameters.proofs.look_list.Tie as tie
@@ -24,11 +25,11 @@ enum-known-e c = search needs
 
 -- src/lib.rt:282:1
 returns : tie.Need-returns
-returns c = ?
+returns c = search (needs, runs)
 
 -- src/lib.rt:282:1
 returns-2 : tie.Need-returns-2
-returns-2 c = ?
+returns-2 c = search (needs, runs)
 
 pub look-list-spec : {M : Type 1} → statement M
 look-list-spec =

@@ -1,3 +1,4 @@
+use Rattle.parameters.proofs.Looks.{fixeds}
 use borrow.Author.Needs.{needs}
 use Rattle.parameters.proofs.look_triple.Statement.{statement}
 use Rattle.parameters.proofs.look_triple.Tie as tie
@@ -37,15 +38,15 @@ enum-known-e-2 c = search needs
 
 -- src/lib.rt:222:1
 returns : tie.Need-returns
-returns c = ?
+returns c = search (needs, fixeds)
 
 -- src/lib.rt:222:1
 returns-2 : tie.Need-returns-2
-returns-2 c = ?
+returns-2 c = search (needs, fixeds)
 
 -- src/lib.rt:222:1
 returns-3 : tie.Need-returns-3
-returns-3 c = ?
+returns-3 c = search (needs, fixeds)
 
 pub look-triple-spec : {M : Type 1} → statement M
 look-triple-spec =

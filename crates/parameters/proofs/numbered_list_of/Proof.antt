@@ -1,3 +1,4 @@
+use Rattle.parameters.proofs.Looks.{lists}
 use borrow.Author.Needs.{needs}
 use Rattle.parameters.proofs.numbered_list_of.Statement.{statement}
 use Rattle.parameters.proofs.numbered_list_of.Tie as tie
@@ -14,11 +15,11 @@ enum-told-2 c = search needs
 
 -- src/lib.rt:272:1
 returns : tie.Need-returns
-returns c = ?
+returns c = search (needs, lists)
 
 -- src/lib.rt:272:1
 returns-2 : tie.Need-returns-2
-returns-2 c = ?
+returns-2 c = search (needs, lists)
 
 pub numbered-list-of-spec : {M : Type 1} → statement M
 numbered-list-of-spec = tie.close (tie.spec enum-told enum-told-2 returns returns-2)

@@ -1,3 +1,4 @@
+use Rattle.parameters.proofs.Looks.{pairs}
 use borrow.Author.Needs.{needs}
 use Rattle.parameters.proofs.pair.Statement.{statement}
 use Rattle.parameters.proofs.pair.Tie as tie
@@ -31,15 +32,15 @@ enum-known-e-2 c = search needs
 
 -- src/lib.rt:168:1
 returns : tie.Need-returns
-returns c = ?
+returns c = search (needs, pairs)
 
 -- src/lib.rt:168:1
 returns-2 : tie.Need-returns-2
-returns-2 c = ?
+returns-2 c = search (needs, pairs)
 
 -- src/lib.rt:168:1
 returns-3 : tie.Need-returns-3
-returns-3 c = ?
+returns-3 c = search (needs, pairs)
 
 pub pair-spec : {M : Type 1} → statement M
 pair-spec =

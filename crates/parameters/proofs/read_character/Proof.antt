@@ -1,3 +1,4 @@
+use Rattle.parameters.proofs.Entering.{entries}
 use borrow.Author.Needs.{needs}
 use Rattle.parameters.proofs.read_character.Statement.{statement}
 use Rattle.parameters.proofs.read_character.Tie as tie
@@ -24,11 +25,11 @@ enum-known-e c = search needs
 
 -- src/lib.rt:77:1
 returns : tie.Need-returns
-returns c = ?
+returns c = search (needs, entries)
 
 -- src/lib.rt:77:1
 returns-2 : tie.Need-returns-2
-returns-2 c = ?
+returns-2 c = search (needs, entries)
 
 pub read-character-spec : {M : Type 1} → statement M
 read-character-spec =

@@ -1,3 +1,4 @@
+use Rattle.parameters.proofs.Entering.{entries}
 use borrow.Author.Needs.{needs}
 use Rattle.parameters.proofs.read_entry.Statement.{statement}
 use Rattle.parameters.proofs.read_entry.Tie as tie
@@ -24,11 +25,11 @@ read-character-requires c κs = search needs
 
 -- src/lib.rt:90:1
 returns : tie.Need-returns
-returns c = ?
+returns c = search (needs, entries)
 
 -- src/lib.rt:90:1
 returns-2 : tie.Need-returns-2
-returns-2 c = ?
+returns-2 c = search (needs, entries)
 
 pub read-entry-spec : {M : Type 1} → statement M
 read-entry-spec =

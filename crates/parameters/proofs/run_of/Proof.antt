@@ -1,3 +1,4 @@
+use Rattle.parameters.proofs.Entering.{runs}
 use borrow.Author.Needs.{needs}
 use Rattle.parameters.proofs.run_of.Statement.{statement}
 use Rattle.parameters.proofs.run_of.Tie as tie
@@ -32,15 +33,15 @@ enum-known-e-2 c = search needs
 
 -- src/lib.rt:119:1
 returns : tie.Need-returns
-returns c = ?
+returns c = search (needs, runs)
 
 -- src/lib.rt:119:1
 returns-2 : tie.Need-returns-2
-returns-2 c = ?
+returns-2 c = search (needs, runs)
 
 -- src/lib.rt:119:1
 returns-3 : tie.Need-returns-3
-returns-3 c = ?
+returns-3 c = search (needs, runs)
 
 pub run-of-spec : {M : Type 1} → statement M
 run-of-spec =
