@@ -1,0 +1,124 @@
+-- Reading a command, by what its parts gave.
+use Prim.Native.Nat.{ℕ, _+_, _≤_, _<_}
+use mathlib.Core.Path.{_≡_, refl, sym, _∙_, ap}
+use mathlib.Core.Bool.{Bool, true, false}
+use mathlib.Core.List.{List}
+use borrow.Author.Tests.{lt-ltb, le-ltb, le-leb, lt-leb}
+use lib.ListN.{length}
+use lib.Seq.{sets}
+use lib.IntN.{ℤ}
+use Rattle.memory.specs.declared.Remembered.{Remembered}
+use Rattle.refusals.specs.declared.Refusal.{Refusal}
+use Rattle.refusals.specs.declared.Refusal.the-variants.{BytesEnd, UnknownCommand, TooShort}
+use Rattle.refusals.specs.Refusals.{numberOf}
+use Rattle.refusals.specs.Answers.{Answer, done, refused, then}
+use Rattle.table.specs.declared.Kind.{Kind}
+use Rattle.table.specs.declared.Found.{Found}
+use Rattle.table.specs.declared.Found.the-variants.{Is, NoKind}
+use Rattle.table.specs.Table.{begins, kindOf}
+use Rattle.parameters.specs.declared.Entry.{Entry}
+use Rattle.parameters.specs.declared.Parameters.{Parameters}
+use Rattle.parameters.specs.declared.Run.{Run}
+use Rattle.parameters.specs.declared.Look.{Look}
+use Rattle.parameters.specs.declared.Look.the-variants as L
+use Rattle.parameters.specs.Entries.{entriesFrom}
+use Rattle.parameters.specs.Shapes.{shapeOf, valuesOf, tailOf}
+use Rattle.parameters.specs.Looking.{Parsed, parametersAt, lookOf}
+use Rattle.commands.specs.declared.CommandRead.{CommandRead}
+use Rattle.commands.specs.declared.CommandRead.the-variants.{Whole, Broken}
+use Rattle.commands.specs.declared.LetterRead.{LetterRead}
+use Rattle.commands.specs.declared.LetterRead.the-variants.{Letter, NoLetter}
+use Rattle.commands.specs.declared.HeadRead.{HeadRead}
+use Rattle.commands.specs.declared.HeadRead.the-variants.{Head, NoHead}
+use Rattle.commands.specs.Reading.{letterAt, letterOf, Letters, headOf, secondAt, headAt, entryIn, Meaning, bodyAt, commandAt, Told, told, commandOf, afterEntries}
+
+-- ---- the letters
+
+module _ (s : List ℕ) (at : ℕ) {r : LetterRead} (er : letterOf r ≡ letterAt s at) where
+  pub second-none : (a : ℕ) {x : Refusal} {p : ℕ} → r ≡ NoLetter x p → headOf (NoHead x p) ≡ secondAt a s at
+  unfolding secondAt headOf letterOf
+  second-none a g = rw (← er, g)
+
+  pub first-none : {x : Refusal} {p : ℕ} → r ≡ NoLetter x p → headOf (NoHead x p) ≡ headAt s at
+  unfolding headAt headOf letterOf
+  first-none g = rw (← er, g)
+
+  module _ {b : ℕ} (g : r ≡ Letter b) where
+    pub second-is : (a : ℕ) {f : Found} {k : Kind} → f ≡ kindOf a b → f ≡ Is k → headOf (Head a b k) ≡ secondAt a s at
+    unfolding secondAt headOf letterOf
+    second-is a e h = rw (← er, g, ← e, h)
+
+    pub second-unknown : (a : ℕ) {f : Found} → f ≡ kindOf a b → f ≡ NoKind → headOf (NoHead UnknownCommand at) ≡ secondAt a s at
+    unfolding secondAt headOf letterOf
+    second-unknown a e h = rw (← er, g, ← e, h)
+
+    pub first-is : {t : Bool} {q : Answer Letters} → t ≡ begins b → t ≡ true → q ≡ secondAt b s (at + 1) → q ≡ headAt s at
+    unfolding headAt letterOf
+    first-is e h j = rw (← er, g, ← e, h) j
+
+    pub first-unknown : {t : Bool} → t ≡ begins b → t ≡ false → headOf (NoHead UnknownCommand at) ≡ headAt s at
+    unfolding headAt headOf letterOf
+    first-unknown e h = rw (← er, g, ← e, h)
+
+pub ruleset heads = (second-none, first-none, second-is, second-unknown, first-is, first-unknown)
+
+-- ---- the body
+
+module _ (kept : Remembered) (a b : ℕ) (k : Kind) (s : List ℕ) (start room : ℕ) {r : Look} (er : lookOf r ≡ parametersAt kept (shapeOf k) s (start + 3)) where
+  pub body-broken : {x : Refusal} {p : ℕ} → r ≡ L.Broken x p → commandOf (Broken x p) ≡ told (bodyAt kept a b k s start room)
+  unfolding bodyAt told commandOf lookOf
+  body-broken g = rw (← er, g)
+
+  pub kept-broken : (l : List ℤ) {x : Refusal} {p : ℕ} → r ≡ L.Broken x p → l ≡ afterEntries (bodyAt kept a b k s start room) l
+  unfolding bodyAt afterEntries lookOf
+  kept-broken l g = rw (← er, g)
+
+  module _ {ps : Parameters} {w : Run} {n : ℕ} {m : Remembered} (g : r ≡ L.Whole ps w n m) where
+    pub body-short : room < w .count → commandOf (Broken TooShort start) ≡ told (bodyAt kept a b k s start room)
+    unfolding bodyAt told commandOf lookOf
+    body-short h = rw (← er, g, lt-leb (w .count) room h)
+
+    pub kept-short : (l : List ℤ) → room < w .count → l ≡ afterEntries (bodyAt kept a b k s start room) l
+    unfolding bodyAt afterEntries lookOf
+    kept-short l h = rw (← er, g, lt-leb (w .count) room h)
+
+    pub body-whole : w .count ≤ room → commandOf (Whole (record { first = a; second = b; parameters = ps }) (w .count) n m) ≡ told (bodyAt kept a b k s start room)
+    unfolding bodyAt told commandOf lookOf
+    body-whole h = rw (← er, g, le-leb (w .count) room h)
+
+    pub filled-whole : (l : List ℤ) {e : Entry} {o : List ℤ} → w .count ≤ room → e ≡ entryIn (tailOf ps) → o ≡ sets l 0 (entriesFrom e m (w .count) s (w .start)) → o ≡ afterEntries (bodyAt kept a b k s start room) l
+    unfolding bodyAt afterEntries lookOf
+    filled-whole l h i j = j ∙ rw (i, ← er, g, le-leb (w .count) room h)
+
+pub ruleset bodies = (body-broken, kept-broken, body-short, kept-short, body-whole, filled-whole)
+
+-- ---- the whole command
+
+module _ (kept : Remembered) (s : List ℕ) (start room : ℕ) where
+  pub past-end : length s ≤ start → commandOf (Broken BytesEnd (length s)) ≡ told (commandAt kept s start room)
+  unfolding commandAt told commandOf
+  past-end h = rw (le-ltb start (length s) h)
+
+  pub kept-past : (l : List ℤ) → length s ≤ start → l ≡ afterEntries (commandAt kept s start room) l
+  unfolding commandAt afterEntries
+  kept-past l h = rw (le-ltb start (length s) h)
+
+  module _ {r : HeadRead} (h : start < length s) (er : headOf r ≡ headAt s (start + 1)) where
+    pub head-none : {x : Refusal} {p : ℕ} → r ≡ NoHead x p → commandOf (Broken x p) ≡ told (commandAt kept s start room)
+    unfolding commandAt told commandOf headOf
+    head-none g = rw (lt-ltb start (length s) h, ← er, g)
+
+    pub kept-none : (l : List ℤ) {x : Refusal} {p : ℕ} → r ≡ NoHead x p → l ≡ afterEntries (commandAt kept s start room) l
+    unfolding commandAt afterEntries headOf
+    kept-none l g = rw (lt-ltb start (length s) h, ← er, g)
+
+    module _ {a b : ℕ} {k : Kind} (g : r ≡ Head a b k) where
+      pub command-is : {q : Answer Told} → q ≡ told (bodyAt kept a b k s start room) → q ≡ told (commandAt kept s start room)
+      unfolding commandAt headOf
+      command-is j = rw (lt-ltb start (length s) h, ← er, g) j
+
+      pub entries-are : (l : List ℤ) {o : List ℤ} → o ≡ afterEntries (bodyAt kept a b k s start room) l → o ≡ afterEntries (commandAt kept s start room) l
+      unfolding commandAt headOf
+      entries-are l j = rw (lt-ltb start (length s) h, ← er, g) j
+
+pub ruleset commands = (past-end, kept-past, head-none, kept-none, command-is, entries-are)
