@@ -110,11 +110,12 @@ pub record Told : Type 0 where
   pub next : ℕ
   pub kept : Remembered
 
-abbrev tell : Meaning → Answer Told
-tell m = done (record { first = m .first; second = m .second; values = m .values; tail = m .tail; count = m .count; next = m .next; kept = m .kept })
+-- what is told of a command beside the entries in the list
+abbrev pub tell : Meaning → Told
+tell m = record { first = m .first; second = m .second; values = m .values; tail = m .tail; count = m .count; next = m .next; kept = m .kept }
 
 unfoldable pub told : Answer Meaning → Answer Told
-told a = then a tell
+told a = then a (λ m. done (tell m))
 
 unfoldable pub commandOf : CommandRead → Answer Told
 commandOf (Whole c k n m) =

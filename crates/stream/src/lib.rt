@@ -1,7 +1,7 @@
 // The items of a host stream: text, commands and refused commands, one after the other.
 ghost use mathlib.Core.Path.{_≡_};
 ghost use lib.ListN.{length};
-ghost use Rattle.stream.specs.Items.{itemOf, itemAt, toldItem, afterItem, passedFrom};
+ghost use Rattle.stream.specs.Items.{itemOf, commandItem, itemAt, toldItem, afterItem, passedFrom};
 use commands::Command;
 use commands::CommandRead;
 use memory::Remembered;
@@ -18,4 +18,55 @@ pub enum Item {
     Refused(Refusal, usize, usize),
     // nothing was read and there is no item: the refusal and its place
     NotRead(Refusal, usize),
+}
+
+// The first place from `at` on that holds an ESC, or the end.
+fn next_escape(s: &[u8], at: usize) -> usize
+    ensures { λ r. ⌜ r ≡ passedFrom (now (s .entry)) at ⌝ }
+{
+    let mut i = at;
+    while i < s.len() {
+        if s[i] == 27 {
+            return i;
+        }
+        i = i + 1;
+    }
+    i
+}
+
+// The item that starts with the ESC at `start`. The list's being too short makes no item.
+fn command_item(kept: Remembered, s: &[u8], start: usize, list: &mut [i32]) -> Item
+    ensures { λ r. ⌜ (itemOf r ≡ toldItem (commandItem kept (now (s .entry)) start (length (now (list .entry))))) × (now (list .exit) ≡ afterItem (commandItem kept (now (s .entry)) start (length (now (list .entry)))) (now (list .entry))) ⌝ }
+{
+    match commands::read_command(kept, s, start, list) {
+        CommandRead::Whole(command, count, n, after) => Item::Done(command, count, n, after),
+        CommandRead::Broken(e, p) => {
+            if refusals::number(e) == 7 {
+                return Item::NotRead(e, p);
+            }
+            Item::Refused(e, p, next_escape(s, p))
+        }
+    }
+}
+
+// The item that starts at `start`. First 8 at place 0 for a start past the end or a remembered point outside 0..4095.
+pub fn read_item(kept: Remembered, s: &[u8], start: usize, list: &mut [i32]) -> Item
+    ensures { λ r. ⌜ (itemOf r ≡ toldItem (itemAt kept (now (s .entry)) start (length (now (list .entry))))) × (now (list .exit) ≡ afterItem (itemAt kept (now (s .entry)) start (length (now (list .entry)))) (now (list .entry))) ⌝ }
+{
+    let point = kept.point;
+    if start > s.len() {
+        return Item::NotRead(Refusal::NotValid, 0);
+    }
+    if memory::is_inside(point) {
+        if start >= s.len() {
+            return Item::Nothing;
+        }
+        let b = s[start];
+        if b == 27 {
+            return command_item(kept, s, start, list);
+        }
+        let next = start + 1;
+        return Item::Text(b, next);
+    }
+    Item::NotRead(Refusal::NotValid, 0)
 }

@@ -1,0 +1,77 @@
+-- "Outside commands each byte but 27 is a text item. A refused command ends at its place, the index given in the answer. If the byte there
+-- is 27, reading starts again on it; otherwise bytes are passed over up to the next 27 and belong to the refused item."
+use Prim.Native.Nat.{ℕ, suc, _+_}
+use mathlib.Core.List.{List, [], _∷_}
+use lib.ListN.{length, getD, drop}
+use lib.Seq.{sets}
+use lib.Dec.{ltb, eqb}
+use lib.IntN.{ℤ}
+use Rattle.memory.specs.declared.Remembered.{Remembered}
+use Rattle.memory.specs.Memory.{inside}
+use Rattle.refusals.specs.Refusals.{numberOf}
+use Rattle.refusals.specs.Answers.{Answer, done, refused, pick}
+use Rattle.parameters.specs.Shapes.{valuesOf, tailOf}
+use Rattle.commands.specs.Reading.{Meaning, Told, tell, commandAt}
+use Rattle.stream.specs.declared.Item.{Item}
+use Rattle.stream.specs.declared.Item.the-variants.{Nothing, Text, Done, Refused, NotRead}
+
+-- an item: none is left, a text byte and the next start, a command, a refused command with its number, place and the next start; or no
+-- item at all, for a number and its place
+pub data Itemed (A : Type 0) : Type 0 where
+  nothing : Itemed A
+  text : ℕ → ℕ → Itemed A
+  command : A → Itemed A
+  trouble : ℕ → ℕ → ℕ → Itemed A
+  unread : ℕ → ℕ → Itemed A
+
+-- how many bytes stand before the next 27
+abbrev pub passed : List ℕ → ℕ
+passed [] = 0
+passed (b ∷ bs) = pick (eqb b 27) 0 (suc (passed bs))
+
+unfoldable pub passedFrom : List ℕ → ℕ → ℕ
+passedFrom s at = at + passed (drop at s)
+
+-- a command that was read, or refused: 7 "makes no item", "nothing is passed over"
+abbrev pub asItem : List ℕ → Answer Meaning → Itemed Meaning
+asItem s (done m) = command m
+asItem s (refused e p) = pick (eqb e 7) (unread e p) (trouble e p (passedFrom s p))
+
+unfoldable pub commandItem : Remembered → List ℕ → ℕ → ℕ → Itemed Meaning
+commandItem kept s start room = asItem s (commandAt kept s start room)
+
+-- "Reading: first 8, with place 0, for a start past the end or a remembered point outside 0..4095; a start at the end answers that no item
+-- is left."
+unfoldable pub itemAt : Remembered → List ℕ → ℕ → ℕ → Itemed Meaning
+itemAt kept s start room =
+    pick (ltb (length s) start)
+    (unread 8 0)
+    (pick (inside (kept .point))
+    (pick (ltb start (length s))
+    (pick (eqb (getD s start 0) 27) (commandItem kept s start room) (text (getD s start 0) (start + 1)))
+    nothing)
+    (unread 8 0))
+
+-- ---- what the answer says, and the lent list behind it
+
+unfoldable pub toldItem : Itemed Meaning → Itemed Told
+toldItem nothing = nothing
+toldItem (text b n) = text b n
+toldItem (command m) = command (tell m)
+toldItem (trouble e p n) = trouble e p n
+toldItem (unread e p) = unread e p
+
+unfoldable pub itemOf : Item → Itemed Told
+itemOf Nothing = nothing
+itemOf (Text b n) = text b n
+itemOf (Done c k n m) =
+    command (record { first = c .first; second = c .second; values = valuesOf (c .parameters); tail = tailOf (c .parameters); count = k; next = n; kept = m })
+itemOf (Refused e p n) = trouble (numberOf e) p n
+itemOf (NotRead e p) = unread (numberOf e) p
+
+unfoldable pub afterItem : Itemed Meaning → List ℤ → List ℤ
+afterItem nothing l = l
+afterItem (text b n) l = l
+afterItem (command m) l = sets l 0 (m .entries)
+afterItem (trouble e p n) l = l
+afterItem (unread e p) l = l
