@@ -5,6 +5,7 @@ use mathlib.Core.Bool.{Bool, true, false}
 use mathlib.Core.List.{List}
 use native.Mathlib.Omega.{arith}
 use borrow.Author.Tests.{le-leb, lt-leb}
+use lib.Dec.{leb}
 use lib.IntN.{ℤ, natAbs}
 use mir.Syntax.{w32}
 use mir.Val.{SFits, toZ, ofZ}
@@ -31,5 +32,8 @@ module _ (v : ℤ) (f : SFits w32 v) {m : ℕ} {t : Bool} (et : t ≡ isNegative
 
   pub integer-spelled : {w : List ℕ} → w ≡ spellOf m t → w ≡ spell v
   integer-spelled e = e ∙ rw (size-is, sign-is)
+
+  pub integer-tested : {k : ℕ} → k ≡ limit t → leb m k ≡ isInteger v
+  integer-tested ek = rw (← size-is, ← sign-is, ← ek)
 
 pub ruleset integers = (not-integer, an-integer, integer-spelled)

@@ -2,10 +2,12 @@
 ghost use mathlib.Core.Path.{_≡_};
 ghost use Prim.Native.Nat.{_<_, _≤_};
 ghost use lib.ListN.{length};
+ghost use lib.Seq.{sets};
+ghost use lib.Dec.{leb};
 ghost use lib.IntN.{natAbs, pos};
-ghost use Rattle.wire.specs.Sending.{sent, afterWrite, writtenOf, Spells};
-ghost use Rattle.numbers.specs.Integers.{signedOf, isNegative, limit, lowByte, integerFrom, integerAt, integerOf, lowOf, spellOf, spell, writeInteger};
-ghost use Rattle.numbers.specs.Counts.{countIn, countAt, countOf, writeCount};
+ghost use Rattle.wire.specs.Sending.{sent, afterWrite, writtenOf, Spells, poured};
+ghost use Rattle.numbers.specs.Integers.{signedOf, isNegative, limit, lowByte, integerFrom, integerAt, integerOf, lowOf, spellOf, spell, isInteger, writeInteger};
+ghost use Rattle.numbers.specs.Counts.{countIn, countAt, countOf, mostEntries, writeCount};
 use memory::Remembered;
 use refusals::Refusal;
 use wire::ByteRead;
@@ -223,4 +225,40 @@ pub fn write_count(kept: Remembered, n: usize, out: &mut [u8], at: usize) -> Wri
     let bytes = w.bytes;
     let len = w.len;
     wire::send(kept, &bytes[..len], out, at)
+}
+
+// "Range -32768..32767"
+pub fn is_integer(v: i32) -> bool
+    ensures { λ r. ⌜ r ≡ isInteger v ⌝ }
+{
+    magnitude(v) <= limit_of(is_negative(v))
+}
+
+// The bytes of an integer as far as there is room, and how many they are; of a value outside its range none.
+pub fn pour_integer(kept: Remembered, v: i32, out: &mut [u8], at: usize) -> usize
+    ensures { λ r. ⌜ (r ≡ length (poured (isInteger v) (sent kept (spell v)))) × (now (out .exit) ≡ sets (now (out .entry)) at (poured (isInteger v) (sent kept (spell v)))) ⌝ }
+{
+    let negative = is_negative(v);
+    let mag = magnitude(v);
+    if mag > limit_of(negative) {
+        return 0;
+    }
+    let w = spell_integer(mag, negative);
+    let bytes = w.bytes;
+    let len = w.len;
+    wire::pour(kept, &bytes[..len], out, at)
+}
+
+// The same for a count.
+pub fn pour_count(kept: Remembered, n: usize, out: &mut [u8], at: usize) -> usize
+    ensures { λ r. ⌜ (r ≡ length (poured (leb n mostEntries) (sent kept (spell (pos n))))) × (now (out .exit) ≡ sets (now (out .entry)) at (poured (leb n mostEntries) (sent kept (spell (pos n))))) ⌝ }
+{
+    if n > MOST_ENTRIES {
+        return 0;
+    }
+    let mag = n as u32;
+    let w = spell_integer(mag, false);
+    let bytes = w.bytes;
+    let len = w.len;
+    wire::pour(kept, &bytes[..len], out, at)
 }

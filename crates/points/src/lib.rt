@@ -4,7 +4,9 @@ ghost use mathlib.Core.Bool.{_&&_};
 ghost use mathlib.Core.List.{_++_};
 ghost use Prim.Native.Nat.{_<_, _≤_, _+_, _*_, _/_, _%_};
 ghost use lib.ListN.{length, take};
-ghost use Rattle.wire.specs.Sending.{sent, afterWrite, writtenOf, Spells};
+ghost use lib.Seq.{sets};
+ghost use Rattle.memory.specs.Memory.{inside};
+ghost use Rattle.wire.specs.Sending.{sent, afterWrite, writtenOf, Spells, poured};
 ghost use Rattle.points.specs.Layout.{Inside, bytesOf, coordinates};
 ghost use Rattle.points.specs.Reading.{pointOf, endsAt, lastAt, afterLoY, afterUpper, afterHiY, pointFrom, pointAt};
 ghost use Rattle.points.specs.Writing.{part, spellBytes, spellPoint, writePoint};
@@ -277,4 +279,18 @@ pub fn write_point(kept: Remembered, point: Point, out: &mut [u8], at: usize) ->
         return wire::send(kept, &bytes[..len], out, at);
     }
     Written::NotWritten(Refusal::NotValid)
+}
+
+// The bytes of a point as far as there is room, and how many they are; of a point outside 0..4095, or from one, none.
+pub fn pour_point(kept: Remembered, point: Point, out: &mut [u8], at: usize) -> usize
+    ensures { λ r. ⌜ (r ≡ length (poured (inside (kept .point) && inside point) (sent kept (spellPoint (kept .point) point)))) × (now (out .exit) ≡ sets (now (out .entry)) at (poured (inside (kept .point) && inside point) (sent kept (spellPoint (kept .point) point)))) ⌝ }
+{
+    let remembered = kept.point;
+    if both(memory::is_inside(remembered), memory::is_inside(point)) {
+        let w = spell(bytes_of(remembered), bytes_of(point));
+        let bytes = w.bytes;
+        let len = w.len;
+        return wire::pour(kept, &bytes[..len], out, at);
+    }
+    0
 }

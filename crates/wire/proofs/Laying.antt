@@ -10,10 +10,11 @@ use lib.ListN.{length, getD, drop, set, length-set, drop-of-length-le}
 use lib.Seq.{sets, drop-cons}
 use Rattle.memory.specs.declared.Remembered.{Remembered}
 use Rattle.refusals.specs.Answers.{Answer}
+use Rattle.refusals.proofs.Many.{past-end}
 use Rattle.refusals.specs.declared.Refusal.{Refusal}
 use Rattle.refusals.specs.declared.Refusal.the-variants.{TooShort, NotValid}
 use Rattle.wire.specs.declared.Written.the-variants.{Next, NotWritten}
-use Rattle.wire.specs.Sending.{sent, writtenOf, writeAt, writeIf, afterWrite}
+use Rattle.wire.specs.Sending.{sent, writtenOf, writeAt, writeIf, afterWrite, poured}
 
 -- what is left, laid from here, ends where the whole ends
 pub record Laying (w out₀ out : List ℕ) (at i : ℕ) : Type 0 where
@@ -42,9 +43,9 @@ laying-end w out₀ out at i f h = let d : drop i w ≡ [] = drop-of-length-le w
 
 -- the answers, with the tests as the code leaves them
 module _ (w l : List ℕ) (at : ℕ) where
-  pub past-end : length l < at → writtenOf (NotWritten TooShort) ≡ writeAt w (length l) at
+  pub at-past : length l < at → writtenOf (NotWritten TooShort) ≡ writeAt w (length l) at
   unfolding writtenOf writeAt
-  past-end h = rw (lt-leb (at + length w) (length l) (omega arith))
+  at-past h = rw (lt-leb (at + length w) (length l) (omega arith))
 
   pub no-room : at ≤ length l → length l - at < length w → writtenOf (NotWritten TooShort) ≡ writeAt w (length l) at
   unfolding writtenOf writeAt
@@ -80,4 +81,36 @@ sent-same kept w e = ap (sent kept) e
 
 pub ruleset writings = (outside, accepted, standing, none-changed, sent-same)
 
-pub ruleset layings = (laying-none, laying-more, laying-end, past-end, no-room, all-laid, none-changed, all-changed)
+-- ---- as far as there is room
+
+pub poured-past : (l w : List ℕ) (at : ℕ) → length l ≤ at → l ≡ sets l at w
+poured-past l w at h = sym (past-end l at w h)
+
+pub poured-full : (w out₀ out : List ℕ) (at i : ℕ) → Laying w out₀ out at i → at < length out₀ → length out₀ - at ≤ i → out ≡ sets out₀ at w
+poured-full w out₀ out at i f h k = sym (past-end out (at + i) (drop i w) (omega (arith, f .long))) ∙ f .whole
+
+pub ruleset pourings = (laying-none, laying-more, laying-end, poured-past, poured-full)
+
+pub not-poured : (w : List ℕ) {ok : Bool} → ok ≡ false → [] ≡ poured ok w
+unfolding poured
+not-poured w e = rw e
+
+pub all-poured : (w : List ℕ) {ok : Bool} {v : List ℕ} → ok ≡ true → v ≡ w → v ≡ poured ok w
+unfolding poured
+all-poured w e f = rw e f
+
+pub pours-size : (w : List ℕ) {ok : Bool} {v : List ℕ} {n : ℕ} → ok ≡ true → v ≡ w → n ≡ length v → n ≡ length (poured ok w)
+pours-size w e f g = g ∙ ap length (all-poured w e f)
+
+pub pours-stand : (w l : List ℕ) (at : ℕ) {ok : Bool} {v o : List ℕ} → ok ≡ true → v ≡ w → o ≡ sets l at v → o ≡ sets l at (poured ok w)
+pours-stand w l at e f g = g ∙ ap (λ (x : List ℕ). sets l at x) (all-poured w e f)
+
+pub none-size : (w : List ℕ) {ok : Bool} → ok ≡ false → 0 ≡ length (poured ok w)
+none-size w e = ap length (not-poured w e)
+
+pub none-stand : (w l : List ℕ) (at : ℕ) {ok : Bool} → ok ≡ false → l ≡ sets l at (poured ok w)
+none-stand w l at e = ap (λ (x : List ℕ). sets l at x) (not-poured w e)
+
+pub ruleset pours = (pours-size, pours-stand, none-size, none-stand, sent-same)
+
+pub ruleset layings = (laying-none, laying-more, laying-end, at-past, no-room, all-laid, none-changed, all-changed)

@@ -2,7 +2,7 @@
 use Prim.Native.Nat.{ℕ, _+_, _≤_}
 use mathlib.Core.Path.{_≡_}
 use mathlib.Core.Bool.{Bool}
-use mathlib.Core.List.{List}
+use mathlib.Core.List.{List, []}
 use lib.ListN.{length, take}
 use lib.Seq.{sets}
 use lib.Dec.{leb}
@@ -39,3 +39,7 @@ writeIf inside w room at = pick inside (writeAt w room at) (refused 8 0)
 unfoldable pub afterWrite : Answer ℕ → List ℕ → List ℕ → ℕ → List ℕ
 afterWrite (done n) w l at = sets l at w
 afterWrite (refused e p) w l at = l
+
+-- what is poured: all of it where it is inside its range, and nothing where it is not
+unfoldable pub poured : (inside : Bool) → List ℕ → List ℕ
+poured inside w = pick inside w []

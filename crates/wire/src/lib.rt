@@ -2,6 +2,7 @@
 ghost use mathlib.Core.Path.{_≡_};
 ghost use Prim.Native.Nat.{_<_};
 ghost use lib.ListN.{length};
+ghost use lib.Seq.{sets};
 ghost use Rattle.wire.specs.Taking.{byteAt, pairAt, byteOf};
 ghost use Rattle.wire.specs.Sending.{sent, writeAt, afterWrite, writtenOf};
 use memory::Remembered;
@@ -90,4 +91,26 @@ pub fn send(kept: Remembered, w: &[u8], out: &mut [u8], at: usize) -> Written
     ensures { λ r. ⌜ (writtenOf r ≡ writeAt (sent kept (now (w .entry))) (length (now (out .entry))) at) × (now (out .exit) ≡ afterWrite (writtenOf r) (sent kept (now (w .entry))) (now (out .entry)) at) ⌝ }
 {
     lay(w, out, at)
+}
+
+// A parameter's bytes, as they are sent, into `out` from `at` on as far as it has room. Answers how many they are, so that lending no
+// room finds the length.
+pub fn pour(kept: Remembered, w: &[u8], out: &mut [u8], at: usize) -> usize
+    ensures { λ r. ⌜ (r ≡ length (sent kept (now (w .entry)))) × (now (out .exit) ≡ sets (now (out .entry)) at (sent kept (now (w .entry)))) ⌝ }
+{
+    let size = w.len();
+    let room = out.len();
+    if at >= room {
+        return size;
+    }
+    let mut i = 0;
+    while i < size {
+        if room - at <= i {
+            return size;
+        }
+        let to = at + i;
+        out[to] = w[i];
+        i = i + 1;
+    }
+    size
 }
