@@ -1,12 +1,13 @@
 -- Readings one after the other, as a turn of a loop takes one: what is left ends where the whole ends.
 use Prim.Native.Nat.{ℕ, zero, suc, _+_, _-_, _≤_, _<_}
 use mathlib.Core.Path.{_≡_, refl, sym, _∙_, ap}
+use mathlib.Core.Bool.{Bool, true, false, _&&_}
 use mathlib.Core.List.{List, [], _∷_}
 use native.Mathlib.Omega.{arith}
 use native.Mathlib.Numerals.{add-one}
-use lib.ListN.{length, set, length-set}
-use lib.Seq.{sets, set-out}
-use Rattle.refusals.specs.Answers.{Answer, done, refused, Read, endsAfter, allAfter}
+use lib.ListN.{length, getD, drop, set, length-set, drop-of-length-le}
+use lib.Seq.{sets, set-out, drop-cons}
+use Rattle.refusals.specs.Answers.{Answer, done, refused, Read, endsAfter, allAfter, every}
 
 -- nothing is stored past the end
 pub past-end : {A : Type 0} (l : List A) (i : ℕ) (w : List A) → length l ≤ i → sets l i w ≡ l
@@ -72,3 +73,33 @@ module _ {A : Type 0} (one : ℕ → Answer (Read A)) where
 
   pub filling-full : (at count : ℕ) (l₀ l : List A) (i pos : ℕ) → Filling at count l₀ l i pos → length l ≤ i → l ≡ sets l₀ 0 (allAfter one count at)
   filling-full at count l₀ l i pos f h = sym (past-end l i (allAfter one (count - i) pos) h) ∙ f .whole
+
+-- ---- testing a list, one entry a turn
+
+pub record Checking {A : Type 0} (ok : A → Bool) (list : List A) (i : ℕ) : Type 0 where
+  pub upto : i ≤ length list
+  pub left : every ok (drop i list) ≡ every ok list
+
+module _ {A : Type 0} (ok : A → Bool) (list : List A) where
+  pub checking-none : Checking ok list 0
+  checking-none = record { upto = omega arith; left = refl }
+
+  pub checking-end : (i : ℕ) → Checking ok list i → length list ≤ i → true ≡ every ok list
+  unfolding every
+  checking-end i f h = let d : drop i list ≡ [] = drop-of-length-le list h in sym (rw d) ∙ f .left
+
+  every-cons : (x : A) (xs : List A) → every ok (x ∷ xs) ≡ ok x && every ok xs
+  unfolding every
+  every-cons x xs = refl
+
+  module _ (d : A) (i : ℕ) (f : Checking ok list i) (h : i < length list) (v : A) (ev : v ≡ getD list i d) {b : Bool} (eb : b ≡ ok v) where
+    here : every ok (drop i list) ≡ b && every ok (drop (i + 1) list)
+    here = rw (drop-cons list i d h, ← ev, ← add-one i, every-cons v (drop (i + 1) list), ← eb)
+
+    pub checking-more : b ≡ true → Checking ok list (i + 1)
+    checking-more t = record { upto = omega arith; left = sym (here ∙ rw t) ∙ f .left }
+
+    pub checking-no : b ≡ false → false ≡ every ok list
+    checking-no t = sym (here ∙ rw t) ∙ f .left
+
+pub ruleset checkings = (checking-none, checking-more, checking-no, checking-end)

@@ -1,7 +1,7 @@
 -- What a call gives back, as document 01 counts it: 0 and the call's values, or a refusal's number and its place.
 use Prim.Native.Nat.{ℕ, zero, suc}
 use mathlib.Core.Path.{_≡_}
-use mathlib.Core.Bool.{Bool, true, false}
+use mathlib.Core.Bool.{Bool, true, false, _&&_}
 use mathlib.Core.List.{List, [], _∷_}
 
 pub data Answer (A : Type 0) : Type 0 where
@@ -27,6 +27,11 @@ then (refused e p) k = refused e p
 abbrev pub pick : {A : Type 0} → Bool → A → A → A
 pick true a b = a
 pick false a b = b
+
+-- all of a list pass the test
+unfoldable pub every : {A : Type 0} → (A → Bool) → List A → Bool
+every ok [] = true
+every ok (x ∷ xs) = ok x && every ok xs
 
 -- k readings, one after the other: where they end, or the first refusal
 unfoldable pub endsAfter : {A : Type 0} → (ℕ → Answer (Read A)) → ℕ → ℕ → Answer ℕ

@@ -11,7 +11,7 @@ use lib.Dec.{ltb, leb}
 use lib.ListN.{length, getD, take, drop, length-map, length-drop}
 use lib.Seq.{getD-take, getD-drop, length-take-le}
 use lib.IntN.{ℤ, pos, negsuc, natAbs}
-use Rattle.refusals.specs.Answers.{Answer, done, refused, Read, endsAfter}
+use Rattle.refusals.specs.Answers.{every, Answer, done, refused, Read, endsAfter}
 use Rattle.refusals.proofs.Cases.{by-pick, by-then, Done, done-of, done-map, is-done, not-done}
 use Rattle.wire.proofs.Feeds.{Stands}
 use Rattle.numbers.specs.Integers.{signedOf, isNegative, lowOf}
@@ -122,7 +122,7 @@ abbrev AllCharacters : List ℕ → ℕ → ℕ → ℕ → Type 0
 AllCharacters s k at n = areCharacters (entriesAt k s at) ≡ true
 
 run-characters : (k : ℕ) (s : List ℕ) (at : ℕ) → Done (AllCharacters s k at) (charactersEnd k s at)
-unfolding endsAfter areCharacters
+unfolding endsAfter every
 run-characters zero s at = is-done (AllCharacters s 0 at) refl
 run-characters (suc k) s at =
     by-then (Done (AllCharacters s (suc k) at)) (within 32 127 s at) _

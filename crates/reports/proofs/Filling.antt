@@ -10,6 +10,7 @@ use lib.Dec.{leb}
 use lib.ListN.{length, getD, take, drop, set, length-set, drop-of-length-le}
 use lib.Seq.{sets, drop-cons}
 use lib.IntN.{ℤ, pos, negsuc, natAbs}
+use Rattle.refusals.specs.Answers.{every}
 use Rattle.refusals.proofs.Cases.{and-left, and-right, zero-one}
 use Rattle.characters.specs.Characters.{isCharacter, areCharacters, bytesOf}
 use Rattle.reports.specs.Reading.{entriesAt}
@@ -67,7 +68,7 @@ emptying-none list out at e h =
     record { upto = omega arith; ok = e; room = h; long = refl; whole = rw y }
 
 pub head-of : (v : ℤ) (vs : List ℤ) → areCharacters (v ∷ vs) ≡ true → (isCharacter v ≡ true) × (areCharacters vs ≡ true)
-unfolding areCharacters
+unfolding every
 head-of v vs e = (and-left (isCharacter v) (areCharacters vs) e, and-right (isCharacter v) (areCharacters vs) e)
 
 -- a character is a byte

@@ -2,7 +2,8 @@ use Prim.Native.Nat.{_-_}
 use native.Mathlib.Omega.{arith}
 use borrow.Author.Needs.{needs}
 use lib.ListN.{length}
-use Rattle.characters.proofs.Entries.{Checking, checkings}
+use Rattle.refusals.proofs.Many.{Checking, checkings}
+use Rattle.characters.specs.Characters.{isCharacter}
 use Rattle.characters.proofs.are_characters.Statement.{statement}
 use Rattle.characters.proofs.are_characters.Tie as tie
 use Rattle.characters.proofs.are_characters.Reads as reads
@@ -10,7 +11,7 @@ use Rattle.characters.proofs.are_characters.Lts as lts
 use Rattle.characters.proofs.is_character.Reads as is-character-reads
 
 abbrev Inv-loop : tie.InvT-loop
-Inv-loop list i₀ i = Checking list i
+Inv-loop list i₀ i = Checking isCharacter list i
 
 abbrev μ-loop : tie.MeasureT-loop
 μ-loop list i₀ i = length list - i

@@ -1,0 +1,63 @@
+use Rattle.commands.proofs.are_entries.Statement.{statement}
+use Rattle.commands.proofs.are_entries.Tie as tie
+use Rattle.commands.proofs.are_entries.Reads as reads
+use Rattle.commands.proofs.are_entries.Lts as lts
+use Rattle.commands.proofs.is_entry.Reads as is-entry-reads
+
+abbrev Inv-loop : tie.InvT-loop
+Inv-loop entry list i₀ i = ?
+
+abbrev μ-loop : tie.MeasureT-loop
+μ-loop entry list i₀ i = ?
+
+-- src/lib.rt:216:5
+loop-holds : tie.Need-loop-holds Inv-loop μ-loop
+loop-holds c = ?
+
+-- src/lib.rt:217:17
+mul-v : tie.Need-mul-v Inv-loop μ-loop
+mul-v c = ?
+
+-- src/lib.rt:217:17
+shared-slice-copy-out-v : tie.Need-shared-slice-copy-out-v Inv-loop μ-loop
+shared-slice-copy-out-v c = ?
+
+-- src/lib.rt:218:12
+is-entry-requires : tie.Need-is-entry-requires Inv-loop μ-loop
+is-entry-requires c κs = ?
+
+-- src/lib.rt:219:17
+add-i : tie.Need-add-i Inv-loop μ-loop
+add-i c = ?
+
+-- src/lib.rt:216:5
+loop-less : tie.Need-loop-less Inv-loop μ-loop
+loop-less c = ?
+
+-- src/lib.rt:216:5
+loop-again : tie.Need-loop-again Inv-loop μ-loop
+loop-again c = ?
+
+-- src/lib.rt:221:13
+returns : tie.Need-returns Inv-loop μ-loop
+returns c = ?
+
+-- src/lib.rt:212:1
+returns-2 : tie.Need-returns-2 Inv-loop μ-loop
+returns-2 c = ?
+
+pub are-entries-spec : {M : Type 1} → statement M
+are-entries-spec =
+    tie.close
+    (tie.spec
+    Inv-loop
+    μ-loop
+    loop-holds
+    mul-v
+    shared-slice-copy-out-v
+    is-entry-requires
+    add-i
+    loop-less
+    loop-again
+    returns
+    returns-2)
