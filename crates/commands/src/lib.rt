@@ -3,7 +3,7 @@ ghost use mathlib.Core.Path.{_≡_};
 ghost use lib.ListN.{length};
 ghost use Rattle.commands.specs.Reading.{letterOf, letterAt, headOf, secondAt, headAt, entryIn, bodyAt, commandOf, commandAt, told, afterEntries};
 ghost use Rattle.commands.specs.Writing.{kindFor, kindNumber, isKind, isEntry, areEntries, areValues, isTail, isCommand, spellEntry, spellEntries, spellValues, afterValues, spellTail, spellCommand, writeCommand};
-ghost use Rattle.parameters.specs.Shapes.{valuesOf, tailOf};
+ghost use Rattle.parameters.specs.Shapes.{counted, valuesOf, tailOf};
 ghost use mathlib.Core.Bool.{_&&_};
 ghost use Prim.Native.Nat.{_<_, _≤_};
 use memory::Remembered;
@@ -13,6 +13,9 @@ use parameters::Parameters;
 use refusals::Refusal;
 use table::Found;
 use table::Kind;
+
+// "more than 256 entries"
+const MOST_ENTRIES: usize = 256;
 
 pub struct Command {
     pub first: u8,
@@ -246,4 +249,41 @@ fn values_fit(parameters: Parameters) -> bool
         Parameters::NumberedText(a) => is_entry(Entry::AnInteger, a),
         Parameters::NumberedArray(a) => is_entry(Entry::AnInteger, a),
     }
+}
+
+fn list_fits(entry: Entry, list: &[i32]) -> bool
+    ensures { λ r. ⌜ r ≡ isTail (counted entry) (now (list .entry)) ⌝ }
+{
+    if list.len() > MOST_ENTRIES {
+        return false;
+    }
+    are_entries(entry, list)
+}
+
+fn tail_fits(parameters: Parameters, list: &[i32]) -> bool
+    ensures { λ r. ⌜ r ≡ isTail (tailOf parameters) (now (list .entry)) ⌝ }
+{
+    match parameters {
+        Parameters::Text => list_fits(Entry::ACharacter, list),
+        Parameters::NumberedText(_) => list_fits(Entry::ACharacter, list),
+        Parameters::Array => list_fits(Entry::AnInteger, list),
+        Parameters::NumberedArray(_) => list_fits(Entry::AnInteger, list),
+        Parameters::Single(_) => true,
+        Parameters::Double(_, _) => true,
+        Parameters::Triple(_, _, _) => true,
+        Parameters::OnePoint(_) => true,
+        Parameters::Corners(_, _) => true,
+        Parameters::Scale(_) => true,
+        Parameters::Letters(_, _) => true,
+    }
+}
+
+pub fn is_writable(kept: Remembered, command: Command, list: &[i32]) -> bool
+    ensures { λ r. ⌜ r ≡ isCommand kept command (now (list .entry)) ⌝ }
+{
+    let point = kept.point;
+    let parameters = command.parameters;
+    let letters = letters_fit(command.first, command.second, parameters);
+    let values = both(values_fit(parameters), tail_fits(parameters, list));
+    both(letters, both(memory::is_inside(point), values))
 }

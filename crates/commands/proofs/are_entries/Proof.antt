@@ -1,3 +1,8 @@
+use borrow.Author.Needs.{needs}
+use Prim.Native.Nat.{_-_}
+use lib.ListN.{length}
+use Rattle.refusals.proofs.Many.{Checking, checkings}
+use Rattle.commands.specs.Writing.{isEntry}
 use Rattle.commands.proofs.are_entries.Statement.{statement}
 use Rattle.commands.proofs.are_entries.Tie as tie
 use Rattle.commands.proofs.are_entries.Reads as reads
@@ -5,46 +10,46 @@ use Rattle.commands.proofs.are_entries.Lts as lts
 use Rattle.commands.proofs.is_entry.Reads as is-entry-reads
 
 abbrev Inv-loop : tie.InvT-loop
-Inv-loop entry list i₀ i = ?
+Inv-loop entry list i₀ i = Checking (isEntry entry) list i
 
 abbrev μ-loop : tie.MeasureT-loop
-μ-loop entry list i₀ i = ?
+μ-loop entry list i₀ i = length list - i
 
 -- src/lib.rt:216:5
 loop-holds : tie.Need-loop-holds Inv-loop μ-loop
-loop-holds c = ?
+loop-holds c = search (needs, checkings)
 
 -- src/lib.rt:217:17
 mul-v : tie.Need-mul-v Inv-loop μ-loop
-mul-v c = ?
+mul-v c = search needs
 
 -- src/lib.rt:217:17
 shared-slice-copy-out-v : tie.Need-shared-slice-copy-out-v Inv-loop μ-loop
-shared-slice-copy-out-v c = ?
+shared-slice-copy-out-v c = search needs
 
 -- src/lib.rt:218:12
 is-entry-requires : tie.Need-is-entry-requires Inv-loop μ-loop
-is-entry-requires c κs = ?
+is-entry-requires c κs = search needs
 
 -- src/lib.rt:219:17
 add-i : tie.Need-add-i Inv-loop μ-loop
-add-i c = ?
+add-i c = search needs
 
 -- src/lib.rt:216:5
 loop-less : tie.Need-loop-less Inv-loop μ-loop
-loop-less c = ?
+loop-less c = search needs
 
 -- src/lib.rt:216:5
 loop-again : tie.Need-loop-again Inv-loop μ-loop
-loop-again c = ?
+loop-again c = search (needs, checkings)
 
 -- src/lib.rt:221:13
 returns : tie.Need-returns Inv-loop μ-loop
-returns c = ?
+returns c = search (needs, checkings)
 
 -- src/lib.rt:212:1
 returns-2 : tie.Need-returns-2 Inv-loop μ-loop
-returns-2 c = ?
+returns-2 c = search (needs, checkings)
 
 pub are-entries-spec : {M : Type 1} → statement M
 are-entries-spec =

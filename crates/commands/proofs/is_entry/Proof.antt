@@ -1,3 +1,4 @@
+use Rattle.commands.proofs.Fitting.{entries}
 use borrow.Author.Needs.{needs}
 use Rattle.commands.proofs.is_entry.Statement.{statement}
 use Rattle.commands.proofs.is_entry.Tie as tie
@@ -24,11 +25,11 @@ is-character-requires c κs = search needs
 
 -- src/lib.rt:203:1
 returns : tie.Need-returns
-returns c = ?
+returns c = search (needs, entries)
 
 -- src/lib.rt:203:1
 returns-2 : tie.Need-returns-2
-returns-2 c = ?
+returns-2 c = search (needs, entries)
 
 pub is-entry-spec : {M : Type 1} → statement M
 is-entry-spec =

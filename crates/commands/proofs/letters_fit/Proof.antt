@@ -1,3 +1,4 @@
+use Rattle.commands.proofs.Fitting.{letters}
 use borrow.Author.Needs.{needs}
 use Rattle.commands.proofs.letters_fit.Statement.{statement}
 use Rattle.commands.proofs.letters_fit.Tie as tie
@@ -33,11 +34,11 @@ enum-told c = search needs
 
 -- src/lib.rt:190:1
 returns : tie.Need-returns
-returns c = ?
+returns c = search (needs, letters)
 
 -- src/lib.rt:190:1
 returns-2 : tie.Need-returns-2
-returns-2 c = ?
+returns-2 c = search (needs, letters)
 
 pub letters-fit-spec : {M : Type 1} → statement M
 letters-fit-spec =

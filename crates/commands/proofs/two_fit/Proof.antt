@@ -1,3 +1,4 @@
+use Rattle.commands.proofs.Fitting.{entries}
 use borrow.Author.Needs.{needs}
 use Rattle.commands.proofs.two_fit.Statement.{statement}
 use Rattle.commands.proofs.two_fit.Tie as tie
@@ -20,7 +21,7 @@ both-requires c κs = search needs
 
 -- src/lib.rt:227:1
 returns : tie.Need-returns
-returns c = ?
+returns c = search (needs, entries)
 
 pub two-fit-spec : {M : Type 1} → statement M
 two-fit-spec = tie.close (tie.spec is-entry-requires is-entry-requires-2 both-requires returns)

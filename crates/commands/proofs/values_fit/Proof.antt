@@ -1,3 +1,4 @@
+use Rattle.commands.proofs.Fitting.{values}
 use borrow.Author.Needs.{needs}
 use Rattle.commands.proofs.values_fit.Statement.{statement}
 use Rattle.commands.proofs.values_fit.Tie as tie
@@ -106,47 +107,47 @@ is-entry-requires-4 c κs = search needs
 
 -- src/lib.rt:233:1
 returns : tie.Need-returns
-returns c = ?
+returns c = search (needs, values)
 
 -- src/lib.rt:233:1
 returns-2 : tie.Need-returns-2
-returns-2 c = ?
+returns-2 c = search (needs, values)
 
 -- src/lib.rt:233:1
 returns-3 : tie.Need-returns-3
-returns-3 c = ?
+returns-3 c = search (needs, values)
 
 -- src/lib.rt:233:1
 returns-4 : tie.Need-returns-4
-returns-4 c = ?
+returns-4 c = search (needs, values)
 
 -- src/lib.rt:233:1
 returns-5 : tie.Need-returns-5
-returns-5 c = ?
+returns-5 c = search (needs, values)
 
 -- src/lib.rt:233:1
 returns-6 : tie.Need-returns-6
-returns-6 c = ?
+returns-6 c = search (needs, values)
 
 -- src/lib.rt:233:1
 returns-7 : tie.Need-returns-7
-returns-7 c = ?
+returns-7 c = search (needs, values)
 
 -- src/lib.rt:233:1
 returns-8 : tie.Need-returns-8
-returns-8 c = ?
+returns-8 c = search (needs, values)
 
 -- src/lib.rt:233:1
 returns-9 : tie.Need-returns-9
-returns-9 c = ?
+returns-9 c = search (needs, values)
 
 -- src/lib.rt:233:1
 returns-10 : tie.Need-returns-10
-returns-10 c = ?
+returns-10 c = search (needs, values)
 
 -- src/lib.rt:233:1
 returns-11 : tie.Need-returns-11
-returns-11 c = ?
+returns-11 c = search (needs, values)
 
 pub values-fit-spec : {M : Type 1} → statement M
 values-fit-spec =
