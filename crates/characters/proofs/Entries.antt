@@ -3,13 +3,13 @@ use Prim.Native.Nat.{ℕ, _+_, _%_, _≤_, _<_}
 use mathlib.Core.Path.{_≡_, refl, sym, _∙_, ap}
 use mathlib.Core.Bool.{Bool, true, false, _&&_}
 use native.Mathlib.Omega.{arith}
-use borrow.Author.Tests.{le-leb, lt-leb}
+use borrow.Author.Tests.{le-leb, lt-leb, leb-true}
 use lib.Dec.{leb}
 use lib.IntN.{ℤ, pos, negsuc, natAbs}
 use mir.Syntax.{w32}
 use mir.Val.{SFits, toZ, ofZ}
 use mir.Facts.{toZ-ofZ}
-use Rattle.refusals.proofs.Cases.{zero-one}
+use Rattle.refusals.proofs.Cases.{zero-one, and-right}
 use Rattle.numbers.specs.Integers.{isNegative}
 use Rattle.characters.specs.Characters.{isCharacter}
 
@@ -43,3 +43,8 @@ pub ruleset entries = (minus, too-low, not-low)
 
 pub low-byte : (v : ℤ) {m : ℕ} → SFits w32 v → m ≡ natAbs (toZ w32 (ofZ w32 v)) → m % 256 ≡ natAbs v % 256
 low-byte v f e = ap (λ (k : ℕ). k % 256) (rw (toZ-ofZ f) at e)
+
+-- a character is a byte
+pub a-byte : (v : ℤ) → isCharacter v ≡ true → natAbs v % 256 ≡ natAbs v
+a-byte (pos n) e = let h : n ≤ 127 = leb-true n 127 (and-right (leb 32 n) (leb n 127) e) in omega arith
+a-byte (negsuc n) e = let k : _≡_ {A = ℕ} 0 1 = cc in absurd (zero-one k)

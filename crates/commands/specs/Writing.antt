@@ -1,9 +1,11 @@
 -- "Writing takes the whole lent list as the entries of a string or array, and for other commands does not look at it. It gives 8 for
 -- letters or a kind of parameters not in the table, a value or remembered point outside its range, or more than 256 entries, then 7."
-use Prim.Native.Nat.{ℕ}
+use Prim.Native.Nat.{ℕ, _≤_}
+use mathlib.Core.Path.{_≡_}
 use mathlib.Core.Bool.{Bool, true, false, _&&_}
 use mathlib.Core.List.{List, [], _∷_, _++_}
 use lib.ListN.{length}
+use lib.Seq.{sets}
 use lib.Dec.{leb, eqb}
 use lib.IntN.{ℤ, pos, natAbs}
 use Rattle.memory.specs.declared.Remembered.{Remembered}
@@ -130,3 +132,9 @@ spellCommand kept c es =
 
 abbrev pub writeCommand : Remembered → Command → List ℤ → ℕ → Answer ℕ
 writeCommand kept c es room = writeIf (isCommand kept c es) (spellCommand kept c es) room 0
+
+-- the bytes w, at most most of them, stand in l from at on as far as it has room, and r says how many they are
+pub record Poured (w : List ℕ) (most : ℕ) (l o : List ℕ) (at r : ℕ) : Type 0 where
+  pub size : r ≡ length w
+  pub stand : o ≡ sets l at w
+  pub few : r ≤ most

@@ -27,6 +27,9 @@ short m t =
     (λ h g. rw (← spell-two m t refl h g) ((λ i. absurd (h (omega arith))), ((λ i. omega arith), omega arith)))
     (λ h. rw (← spell-three m t refl h) ((λ i. omega arith), ((λ i. omega arith), omega arith)))
 
+pub spell-few : (v : ℤ) → length (spell v) ≤ 3
+spell-few v = short (natAbs v) (isNegative v) .1 .1
+
 magnitude-back : (m : ℕ) (t : Bool) → natAbs (signedOf m t) ≡ m
 magnitude-back zero true = refl
 magnitude-back (suc m) true = refl

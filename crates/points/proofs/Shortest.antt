@@ -70,6 +70,15 @@ spelled-most y u l t a b q =
     let j₅ = joined y y′ (b .hiy) w₄ (bytes u + (bytes (l && (u && t)) + (bytes t + 1))) qy j₄ in
     rw (regroup a b) (omega (arith, j₅))
 
+pub point-few : (p q : Point) → length (spellPoint p q) ≤ 5
+point-few p q =
+    spelled-most false false false false (bytesOf p) (bytesOf q) (record {
+      same-hiy = λ e. absurd (bool-apart e);
+      same-extra = λ e. absurd (bool-apart e);
+      same-loy = λ e. absurd (bool-apart e);
+      same-hix = λ e. absurd (bool-apart e);
+    })
+
 -- ---- the bytes of a point that was made of bytes
 
 high-back : (h l e : ℕ) → 32 ≤ h → h < 64 → l < 32 → e < 4 → 32 + (h % 32 * 128 + l * 4 + e) / 128 ≡ h

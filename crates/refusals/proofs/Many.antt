@@ -2,7 +2,7 @@
 use Prim.Native.Nat.{ℕ, zero, suc, _+_, _-_, _≤_, _<_}
 use mathlib.Core.Path.{_≡_, refl, sym, _∙_, ap}
 use mathlib.Core.Bool.{Bool, true, false, _&&_}
-use mathlib.Core.List.{List, [], _∷_}
+use mathlib.Core.List.{List, [], _∷_, _++_}
 use native.Mathlib.Omega.{arith}
 use native.Mathlib.Numerals.{add-one}
 use lib.ListN.{length, getD, drop, set, length-set, drop-of-length-le}
@@ -13,6 +13,13 @@ use Rattle.refusals.specs.Answers.{Answer, done, refused, Read, endsAfte
 pub past-end : {A : Type 0} (l : List A) (i : ℕ) (w : List A) → length l ≤ i → sets l i w ≡ l
 past-end l i [] h = refl
 past-end l i (x ∷ w) h = ap (λ m. sets m (suc i) w) (set-out l i x h) ∙ past-end l (suc i) w (omega arith)
+
+-- one piece behind another
+pub sets-append : {A : Type 0} (a b l : List A) (at : ℕ) → sets (sets l at a) (at + length a) b ≡ sets l at (a ++ b)
+sets-append [] b l at = let z : at + 0 ≡ at = omega arith in ap (λ (k : ℕ). sets l k b) z
+sets-append (x ∷ a) b l at =
+    let z : at + length (x ∷ a) ≡ suc at + length a = omega arith in
+    ap (λ (k : ℕ). sets (sets (set l at x) (suc at) a) k b) z ∙ sets-append a b (set l at x) (suc at)
 
 module _ {A : Type 0} (one : ℕ → Answer (Read A)) where
   -- ---- passing over

@@ -12,6 +12,7 @@ use lib.Seq.{sets, drop-cons}
 use lib.IntN.{ℤ, pos, negsuc, natAbs}
 use Rattle.refusals.specs.Answers.{every}
 use Rattle.refusals.proofs.Cases.{and-left, and-right, zero-one}
+use Rattle.characters.proofs.Entries.{a-byte}
 use Rattle.characters.specs.Characters.{isCharacter, areCharacters, bytesOf}
 use Rattle.reports.specs.Reading.{entriesAt}
 
@@ -70,11 +71,6 @@ emptying-none list out at e h =
 pub head-of : (v : ℤ) (vs : List ℤ) → areCharacters (v ∷ vs) ≡ true → (isCharacter v ≡ true) × (areCharacters vs ≡ true)
 unfolding every
 head-of v vs e = (and-left (isCharacter v) (areCharacters vs) e, and-right (isCharacter v) (areCharacters vs) e)
-
--- a character is a byte
-a-byte : (v : ℤ) → isCharacter v ≡ true → natAbs v % 256 ≡ natAbs v
-a-byte (pos n) e = let h : n ≤ 127 = leb-true n 127 (and-right (leb 32 n) (leb n 127) e) in omega arith
-a-byte (negsuc n) e = let k : _≡_ {A = ℕ} 0 1 = cc in absurd (zero-one k)
 
 pub emptying-more : (list : List ℤ) (out₀ out : List ℕ) (at i : ℕ) (v : ℤ) {b : ℕ} → Emptying list out₀ out at i → i < length list → b ≡ natAbs v % 256 → v ≡ getD list i (pos 0) → Emptying list out₀ (set out (at + i) b) at (i + 1)
 emptying-more list out₀ out at i v {b} f h eb ev =

@@ -12,6 +12,7 @@ use lib.IntN.{ℤ, pos, natAbs}
 use mir.Syntax.{w32}
 use mir.Val.{SFits, toZ, ofZ}
 use mir.Facts.{toZ-ofZ}
+use Rattle.refusals.proofs.Many.{sets-append}
 use Rattle.refusals.specs.declared.Refusal.the-variants.{TooShort}
 use Rattle.refusals.specs.Answers.{Answer, done}
 use Rattle.wire.specs.declared.Written.{Written}
@@ -74,12 +75,6 @@ module _ (vs : List ℤ) where
         let n = long in
         let q : at + length (spellString vs) ≡ at + (length vs + 3) = omega arith in
         rw (e, le-leb (at + length (spellString vs)) (length l) (omega arith), q)
-
-sets-append : (a b l : List ℕ) (at : ℕ) → sets (sets l at a) (at + length a) b ≡ sets l at (a ++ b)
-sets-append [] b l at = let z : at + 0 ≡ at = omega arith in ap (λ (k : ℕ). sets l k b) z
-sets-append (x ∷ a) b l at =
-    let z : at + length (x ∷ a) ≡ suc at + length a = omega arith in
-    ap (λ (k : ℕ). sets (sets (set l at x) (suc at) a) k b) z ∙ sets-append a b (set l at x) (suc at)
 
 -- the length was laid, and then the characters
 module _ (vs : List ℤ) (l : List ℕ) (at : ℕ) (r : Written) {w o : List ℕ} (ew : w ≡ spellReportOf (length vs) false) (e : writtenOf r ≡ writeAt w (length l) at) (j : o ≡ afterWrite (writtenOf r) w l at) (p : at ≤ length l) (h : length vs + 3 ≤ length l - at) where
