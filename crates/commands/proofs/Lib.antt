@@ -1,3 +1,4 @@
 pub mod Heads
 pub mod Fitting
 pub mod Pouring
+pub mod Lists

@@ -92,7 +92,7 @@ isCommand kept c es =
 
 -- ---- its bytes
 
-abbrev pub spellEntry : Entry → Remembered → ℤ → List ℕ
+unfoldable pub spellEntry : Entry → Remembered → ℤ → List ℕ
 spellEntry AnInteger kept v = sent kept (spell v)
 spellEntry ACharacter kept v = sent kept (natAbs v ∷ [])
 

@@ -356,7 +356,11 @@ fn pour_values(kept: Remembered, parameters: Parameters, out: &mut [u8], at: usi
         Parameters::Triple(a, b, d) => pour_triple(kept, a, b, d, out, at),
         Parameters::OnePoint(p) => pour_place(kept, p, out, at),
         Parameters::Corners(p, q) => pour_corners(kept, p, q, out, at),
-        Parameters::Scale(r) => pour_pair(kept, Entry::AnInteger, r.mantissa, r.exponent, out, at),
+        Parameters::Scale(real) => {
+            let a = real.mantissa;
+            let b = real.exponent;
+            pour_pair(kept, Entry::AnInteger, a, b, out, at)
+        }
         Parameters::Letters(a, b) => pour_pair(kept, Entry::ACharacter, a, b, out, at),
         Parameters::Text => 0,
         Parameters::Array => 0,

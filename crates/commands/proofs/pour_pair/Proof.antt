@@ -1,4 +1,5 @@
-use Rattle.commands.proofs.Pouring.{pieces}
+use mir.Facts.{toZ-ofZ}
+use Rattle.commands.proofs.Pouring.{pair-poured}
 use borrow.Author.Needs.{needs}
 use Rattle.commands.proofs.pour_pair.Statement.{statement}
 use Rattle.commands.proofs.pour_pair.Tie as tie
@@ -28,7 +29,11 @@ same-length c = search needs
 
 -- src/lib.rt:311:1
 returns : tie.Need-returns
-returns c = search (needs, pieces)
+returns c =
+    let start = c .before .before .before .before .before .before .before .before .before in
+    let first = c .before .before .before .before .before .before .pour-entry .ensures in
+    let second = c .before .before .pour-entry2 .ensures in
+    pair-poured _ _ _ _ _ _ _ _ _ _ _ _ first (toZ-ofZ (start .fits .a)) second (toZ-ofZ (start .fits .b))
 
 pub pour-pair-spec : {M : Type 1} → statement M
 pour-pair-spec =

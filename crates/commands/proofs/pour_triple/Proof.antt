@@ -1,4 +1,5 @@
-use Rattle.commands.proofs.Pouring.{pieces}
+use mir.Facts.{toZ-ofZ}
+use Rattle.commands.proofs.Pouring.{triple-poured}
 use borrow.Author.Needs.{needs}
 use Rattle.commands.proofs.pour_triple.Statement.{statement}
 use Rattle.commands.proofs.pour_triple.Tie as tie
@@ -29,7 +30,11 @@ same-length c = search needs
 
 -- src/lib.rt:321:1
 returns : tie.Need-returns
-returns c = search (needs, pieces)
+returns c =
+    let start = c .before .before .before .before .before .before .before .before .before in
+    let first = c .before .before .before .before .before .before .pour-pair .ensures in
+    let second = c .before .before .pour-entry .ensures in
+    triple-poured _ _ _ _ _ _ _ _ _ _ _ _ _ first (toZ-ofZ (start .fits .a)) (toZ-ofZ (start .fits .b)) second (toZ-ofZ (start .fits .d))
 
 pub pour-triple-spec : {M : Type 1} → statement M
 pour-triple-spec =

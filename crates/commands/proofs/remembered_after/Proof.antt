@@ -1,3 +1,5 @@
+use Rattle.commands.specs.Writing.{afterValues}
+use Rattle.commands.proofs.Lists.{after-kind}
 use borrow.Author.Needs.{needs}
 use Rattle.commands.proofs.remembered_after.Statement.{statement}
 use Rattle.commands.proofs.remembered_after.Tie as tie
@@ -59,47 +61,58 @@ enum-told-9 c = search needs
 
 -- src/lib.rt:414:1
 returns : tie.Need-returns
-returns c = ?
+unfolding afterValues
+returns c = search (needs, after-kind)
 
 -- src/lib.rt:414:1
 returns-2 : tie.Need-returns-2
-returns-2 c = ?
+unfolding afterValues
+returns-2 c = search (needs, after-kind)
 
 -- src/lib.rt:414:1
 returns-3 : tie.Need-returns-3
-returns-3 c = ?
+unfolding afterValues
+returns-3 c = search (needs, after-kind)
 
 -- src/lib.rt:414:1
 returns-4 : tie.Need-returns-4
-returns-4 c = ?
+unfolding afterValues
+returns-4 c = search (needs, after-kind)
 
 -- src/lib.rt:414:1
 returns-5 : tie.Need-returns-5
-returns-5 c = ?
+unfolding afterValues
+returns-5 c = search (needs, after-kind)
 
 -- src/lib.rt:414:1
 returns-6 : tie.Need-returns-6
-returns-6 c = ?
+unfolding afterValues
+returns-6 c = search (needs, after-kind)
 
 -- src/lib.rt:414:1
 returns-7 : tie.Need-returns-7
-returns-7 c = ?
+unfolding afterValues
+returns-7 c = search (needs, after-kind)
 
 -- src/lib.rt:414:1
 returns-8 : tie.Need-returns-8
-returns-8 c = ?
+unfolding afterValues
+returns-8 c = search (needs, after-kind)
 
 -- src/lib.rt:414:1
 returns-9 : tie.Need-returns-9
-returns-9 c = ?
+unfolding afterValues
+returns-9 c = search (needs, after-kind)
 
 -- src/lib.rt:414:1
 returns-10 : tie.Need-returns-10
-returns-10 c = ?
+unfolding afterValues
+returns-10 c = search (needs, after-kind)
 
 -- src/lib.rt:414:1
 returns-11 : tie.Need-returns-11
-returns-11 c = ?
+unfolding afterValues
+returns-11 c = search (needs, after-kind)
 
 pub remembered-after-spec : {M : Type 1} → statement M
 remembered-after-spec =

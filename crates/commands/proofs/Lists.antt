@@ -1,0 +1,149 @@
+-- The entries of a list, poured one a turn, and the whole command behind them.
+use Prim.Native.Nat.{ℕ, zero, suc, _+_, _*_, _≤_, _<_}
+use mathlib.Core.Path.{_≡_, refl, sym, _∙_, ap}
+use mathlib.Core.Bool.{Bool, true, false, _&&_}
+use mathlib.Core.List.{List, [], _∷_, _++_, append-assoc}
+use native.Mathlib.Omega.{arith}
+use native.Mathlib.Numerals.{add-one}
+use borrow.Author.Tests.{le-leb, lt-leb, leb-true}
+use lib.Dec.{leb}
+use lib.ListN.{length, getD, drop, length-append, drop-of-length-le}
+use lib.Seq.{sets, drop-cons, length-sets}
+use lib.IntN.{ℤ, pos}
+use Rattle.memory.specs.declared.Remembered.{Remembered}
+use Rattle.memory.specs.declared.Point.{Point}
+use Rattle.memory.specs.Memory.{inside, remember}
+use Rattle.refusals.specs.Answers.{Answer, every}
+use Rattle.refusals.specs.declared.Refusal.the-variants.{TooShort, NotValid}
+use Rattle.refusals.proofs.Cases.{and-left, and-right}
+use Rattle.refusals.proofs.Many.{sets-append}
+use Rattle.wire.specs.Sending.{sent, poured, writtenOf, writeAt, writeIf, afterWrite}
+use Rattle.wire.specs.declared.Written.the-variants.{Next, NotWritten}
+use Rattle.numbers.specs.Integers.{spell}
+use Rattle.numbers.proofs.Shortest.{spell-few}
+use Rattle.parameters.specs.declared.Entry.{Entry}
+use Rattle.parameters.specs.declared.Parameters.{Parameters}
+use Rattle.parameters.specs.Shapes.{Tail, none, counted, valuesOf, tailOf}
+use Rattle.commands.specs.declared.Command.{Command}
+use Rattle.commands.specs.Writing.{isKind, isEntry, areEntries, areValues, isTail, isCommand, spellEntry, spellEntries, spellValues, afterValues, spellTail, spellParameters, spellCommand, writeCommand, Poured}
+use Rattle.commands.proofs.Pouring.{poured-both}
+
+-- ---- entries
+
+pub record Entering (e : Entry) (kept : Remembered) (list : List ℤ) (out₀ out : List ℕ) (at i n : ℕ) : Type 0 where
+  pub upto : i ≤ length list
+  pub ok : areEntries e (drop i list) ≡ true
+  pub few : n ≤ 3 * i
+  pub long : length out ≡ length out₀
+  pub size : n + length (spellEntries e kept (drop i list)) ≡ length (spellEntries e kept list)
+  pub whole : sets out (at + n) (spellEntries e kept (drop i list)) ≡ sets out₀ at (spellEntries e kept list)
+
+pub entering-none : (e : Entry) (kept : Remembered) (list : List ℤ) (out : List ℕ) (at : ℕ) → areEntries e list ≡ true → Entering e kept list out out at 0 0
+entering-none e kept list out at h =
+    let z : at + 0 ≡ at = omega arith in
+    record { upto = omega arith; ok = h; few = omega arith; long = refl; size = omega arith; whole = ap (λ (k : ℕ). sets out k (spellEntries e kept list)) z }
+
+split : (e : Entry) (v : ℤ) (vs : List ℤ) → areEntries e (v ∷ vs) ≡ true → (isEntry e v ≡ true) × (areEntries e vs ≡ true)
+unfolding every
+split e v vs h = (and-left (isEntry e v) (areEntries e vs) h, and-right (isEntry e v) (areEntries e vs) h)
+
+spell-cons : (e : Entry) (kept : Remembered) (v : ℤ) (vs : List ℤ) → spellEntries e kept (v ∷ vs) ≡ spellEntry e kept v ++ spellEntries e kept vs
+unfolding spellEntries
+spell-cons e kept v vs = refl
+
+module _ (e : Entry) (kept : Remembered) (list : List ℤ) (out₀ out : List ℕ) (at i n : ℕ) (f : Entering e kept list out₀ out at i n) where
+  module _ (h : i < length list) (v : ℤ) (ev : v ≡ getD list i (pos 0)) where
+    cons : drop i list ≡ v ∷ drop (i + 1) list
+    cons = drop-cons list i (pos 0) h ∙ rw (ev, add-one i)
+
+    oks : (isEntry e v ≡ true) × (areEntries e (drop (i + 1) list) ≡ true)
+    oks = split e v (drop (i + 1) list) (rw cons at (f .ok))
+
+    pub entry-ok : (x : ℤ) → x ≡ v → isEntry e x ≡ true
+    entry-ok x j = ap (isEntry e) j ∙ oks .0
+
+    parts : spellEntries e kept (drop i list) ≡ spellEntry e kept v ++ spellEntries e kept (drop (i + 1) list)
+    parts = ap (spellEntries e kept) cons ∙ spell-cons e kept v (drop (i + 1) list)
+
+    pub entering-more : (x : ℤ) {o : List ℕ} {m : ℕ} → Poured (spellEntry e kept x) 3 out o (at + n) m → x ≡ v → Entering e kept list out₀ o at (i + 1) (n + m)
+    entering-more x {o} {m} g j =
+        let w = spellEntry e kept v in
+        let rest = spellEntries e kept (drop (i + 1) list) in
+        let s : m ≡ length w = g .size ∙ ap (λ (y : ℤ). length (spellEntry e kept y)) j in
+        let t : o ≡ sets out (at + n) w = g .stand ∙ ap (λ (y : ℤ). sets out (at + n) (spellEntry e kept y)) j in
+        let z : at + (n + m) ≡ at + n + length w = omega (arith, s) in
+        let l : length (spellEntries e kept (drop i list)) ≡ length w + length rest = ap length parts ∙ length-append w rest in
+        record {
+          upto = omega arith;
+          ok = oks .1;
+          few = omega (arith, f .few, g .few);
+          long = ap length t ∙ length-sets out (at + n) w ∙ f .long;
+          size = omega (arith, f .size, l, s);
+          whole =
+              ap (λ (k : ℕ). sets o k rest) z ∙ ap (λ (y : List ℕ). sets y (at + n + length w) rest) t
+              ∙ sets-append w rest out (at + n) ∙ ap (λ (y : List ℕ). sets out (at + n) y) (sym parts) ∙ f .whole;
+        }
+
+  pub entering-end : length list ≤ i → length list ≤ 256 → Poured (spellEntries e kept list) 768 out₀ out at n
+  unfolding spellEntries
+  entering-end h k =
+      let d : drop i list ≡ [] = drop-of-length-le list h in
+      let z : spellEntries e kept (drop i list) ≡ [] = ap (spellEntries e kept) d in
+      record {
+        size = omega (arith, f .size, ap length z);
+        stand = sym (ap (λ (y : List ℕ). sets out (at + n) y) z) ∙ f .whole;
+        few = omega (arith, f .few, f .upto);
+      }
+
+pub ruleset enterings = (entering-none, entry-ok, entering-more, entering-end)
+
+-- ---- a counted list
+
+module _ (e : Entry) (kept : Remembered) (list : List ℤ) (h : isTail (counted e) list ≡ true) where
+  few-entries : leb (length list) 256 ≡ true
+  unfolding isTail
+  few-entries = and-left (leb (length list) 256) (areEntries e list) h
+
+  pub list-few : length list ≤ 256
+  list-few = leb-true (length list) 256 few-entries
+
+  pub list-ok : areEntries e list ≡ true
+  unfolding isTail
+  list-ok = and-right (leb (length list) 256) (areEntries e list) h
+
+  count-is : poured (leb (length list) 256) (sent kept (spell (pos (length list)))) ≡ sent kept (spell (pos (length list)))
+  unfolding poured
+  count-is = rw few-entries
+
+  count-long : length (poured (leb (length list) 256) (sent kept (spell (pos (length list))))) ≤ 3
+  unfolding sent
+  count-long = rw count-is (spell-few (pos (length list)))
+
+  pub count-few : {n : ℕ} → n ≡ length (poured (leb (length list) 256) (sent kept (spell (pos (length list))))) → n ≤ 3
+  count-few e = rw e count-long
+
+  pub list-poured : (l m o : List ℕ) (at n r : ℕ) → n ≡ length (poured (leb (length list) 256) (sent kept (spell (pos (length list))))) → m ≡ sets l at (poured (leb (length list) 256) (sent kept (spell (pos (length list))))) → Poured (spellEntries e kept list) 768 m o (at + n) r → Poured (spellTail kept (counted e) list) 771 l o at (n + r)
+  unfolding spellTail
+  list-poured l m o at n r en em f =
+      let w = sent kept (spell (pos (length list))) in
+      let g : Poured w 3 l m at n = record { size = en ∙ ap length count-is; stand = em ∙ ap (λ (y : List ℕ). sets l at y) count-is; few = count-few en } in
+      poured-both w (spellEntries e kept list) 3 768 771 l m o at n r g f (omega arith)
+
+-- ---- the tail of each kind
+
+pub tail-ok : (ps : Parameters) (es : List ℤ) {q : Parameters} {e : Entry} → isTail (tailOf ps) es ≡ true → ps ≡ q → tailOf q ≡ counted e → isTail (counted e) es ≡ true
+tail-ok ps es h g j = rw (g, j) at h
+
+pub tail-poured : (kept : Remembered) (ps : Parameters) (es : List ℤ) {q : Parameters} (e : Entry) (l o : List ℕ) (at r : ℕ) → ps ≡ q → Poured (spellTail kept (counted e) es) 771 l o at r → tailOf q ≡ counted e → Poured (spellTail kept (tailOf ps) es) 771 l o at r
+tail-poured kept ps es e l o at r g f j = rw (g, j) f
+
+pub no-tail : (kept : Remembered) (ps : Parameters) (es : List ℤ) {q : Parameters} (l : List ℕ) (at : ℕ) → ps ≡ q → tailOf q ≡ none → Poured (spellTail kept (tailOf ps) es) 771 l l at 0
+unfolding spellTail
+no-tail kept ps es l at g j = rw (g, j) (record { size = refl; stand = refl; few = omega arith })
+
+pub ruleset tails = (list-few, list-ok, list-poured, tail-ok, tail-poured, no-tail)
+
+-- ---- what is remembered
+
+pub after-kind : (kept : Remembered) (ps : Parameters) {q : Parameters} {k : Remembered} → ps ≡ q → k ≡ afterValues kept (valuesOf q) → k ≡ afterValues kept (valuesOf ps)
+after-kind kept ps g j = rw g j

@@ -1,0 +1,4 @@
+pub mod Pours
+pub mod Digits
+pub mod Held
+pub mod Lined

@@ -1,0 +1,158 @@
+-- The lines, by what their parts poured.
+use Prim.Native.Nat.{ℕ, _+_, _-_, _*_, _^_, _≤_, _<_, min}
+use mathlib.Core.Path.{_≡_, sym, _∙_, ap}
+use mathlib.Core.Bool.{Bool, true, false}
+use mathlib.Core.List.{List, [], _∷_, _++_}
+use mathlib.Core.Logic.{⊎-elim}
+use native.Mathlib.Nat.{eq-zero-or-pos}
+use native.Mathlib.Omega.{arith}
+use borrow.Author.Tests.{le-leb, lt-leb}
+use lib.ListN.{length, take, length-take}
+use lib.Seq.{length-take-le, take-all}
+use lib.IntN.{ℤ, pos}
+use Rattle.refusals.specs.declared.Refusal.{Refusal}
+use Rattle.refusals.specs.declared.Refusal.the-variants.{TooShort}
+use Rattle.refusals.specs.Refusals.{numberOf}
+use Rattle.refusals.proofs.Many.{past-end}
+use Rattle.memory.specs.declared.Remembered.{Remembered}
+use Rattle.wire.specs.declared.Written.the-variants.{Next, NotWritten}
+use Rattle.wire.specs.Sending.{writtenOf, writeAt, afterWrite}
+use Rattle.parameters.specs.declared.Parameters.{Parameters}
+use Rattle.parameters.specs.Shapes.{valuesOf, tailOf}
+use Rattle.commands.specs.declared.Command.{Command}
+use Rattle.stream.specs.declared.Item.{Item}
+use Rattle.stream.specs.declared.Item.the-variants.{Nothing, Text, Done, Refused, NotRead}
+use Rattle.lines.specs.declared.Numbers.{Numbers}
+use Rattle.lines.specs.Decimals.{field, fields}
+use Rattle.lines.specs.Pouring.{far, behind, Poured}
+use Rattle.lines.specs.Lines.{numbersOf, Holds, isList, listed, opening, textLine, letters, commandHead, parametersWords, commandLine, pair, refusedLine, lineOf, lastLetter, lastLine}
+use Rattle.lines.proofs.Pours.{poured-none, poured-both, poured-long}
+
+-- ---- parts of lists
+
+pub front-long : (vs : List ℤ) {r : Numbers} → Holds vs r → r .len ≡ length (take (r .len) (r .values))
+front-long vs {r} h = sym (length-take-le (r .len) (r .values) (h .within))
+
+pub fixed-poured : {vs : List ℤ} {r : Numbers} {l o : List ℕ} {at n : ℕ} → Holds vs r → Poured l at (fields (take (r .len) (r .values))) n o → Poured l at (fields vs) n o
+fixed-poured h p = rw (h .same) at p
+
+pub least-long : (k : ℕ) (list : List ℤ) {m : ℕ} → m ≡ min k (length list) → m ≡ length (take m list)
+least-long k list {m} e = omega (arith, length-take m list)
+
+first-of : (k : ℕ) (list : List ℤ) → take (min k (length list)) list ≡ take k list
+first-of k list =
+    ⊎-elim
+    (λ e. let z : min k (length list) ≡ k = omega arith in ap (λ (i : ℕ). take i list) z)
+    (λ e. take-all (min k (length list)) list (omega arith) ∙ sym (take-all k list (omega arith)))
+    (eq-zero-or-pos (k - length list))
+
+pub list-poured : (t : Bool) (k : ℕ) (list : List ℤ) {m : ℕ} {l h o : List ℕ} {at j n : ℕ} {is : Bool} → is ≡ t → is ≡ true → m ≡ min k (length list) → Poured h j (fields (take m list)) n o → Poured l at (field (pos k)) j h → Poured l at (listed t k list) n o
+unfolding listed
+list-poured t k list e f d q p = rw (← e, f, ← first-of k list, ← d) (poured-both q p)
+
+pub no-list : (t : Bool) (k : ℕ) (list : List ℤ) {is : Bool} (l : List ℕ) (at : ℕ) → is ≡ t → is ≡ false → length l * 1 < 2 ^ 63 → Poured l at (listed t k list) at l
+unfolding listed
+no-list t k list l at e f h = rw (← e, f) (poured-none l at h)
+
+pub ruleset lists = (front-long, fixed-poured, least-long, list-poured, no-list, poured-long)
+
+-- ---- the lines
+
+module _ {l o : List ℕ} {n : ℕ} where
+  pub opening-poured : (x start : ℕ) {l₁ : List ℕ} {i : ℕ} → Poured l₁ i (field (pos start)) n o → Poured l 0 (x ∷ []) i l₁ → Poured l 0 (opening x start) n o
+  unfolding opening
+  opening-poured x start b a = poured-both b a
+
+  pub text-poured : (start b : ℕ) {l₁ l₂ : List ℕ} {i j : ℕ} → Poured l₂ j (10 ∷ []) n o → Poured l₁ i (field (pos b)) j l₂ → Poured l 0 (opening 84 start) i l₁ → Poured l 0 (textLine start b) n o
+  unfolding textLine
+  text-poured s v c b a = poured-both c (poured-both b a)
+
+  pub letters-poured : {x y at : ℕ} {l₁ l₂ : List ℕ} {i j : ℕ} → Poured l₂ j (y ∷ []) n o → Poured l₁ i (x ∷ []) j l₂ → Poured l at (32 ∷ []) i l₁ → Poured l at (letters x y) n o
+  unfolding letters
+  letters-poured c b a = poured-both c (poured-both b a)
+
+  pub pair-poured : (a b : ℕ) {l₁ : List ℕ} {at i : ℕ} → Poured l₁ i (field (pos b)) n o → Poured l at (field (pos a)) i l₁ → Poured l at (pair a b) n o
+  unfolding pair
+  pair-poured x y b a = poured-both b a
+
+  pub refused-poured : (start p : ℕ) (x : Refusal) {e : ℕ} {l₁ l₂ : List ℕ} {i j : ℕ} → Poured l₂ j (10 ∷ []) n o → Poured l₁ i (pair e p) j l₂ → Poured l 0 (opening 82 start) i l₁ → e ≡ numberOf x → Poured l 0 (refusedLine start (numberOf x) p) n o
+  unfolding refusedLine
+  refused-poured start p x c b a e = rw (← e) (poured-both c (poured-both b a))
+
+  pub parameters-poured : (ps : Parameters) (count : ℕ) (list : List ℤ) {l₁ : List ℕ} {at i : ℕ} → Poured l₁ i (listed (isList (tailOf ps)) count list) n o → Poured l at (fields (numbersOf (valuesOf ps))) i l₁ → Poured l at (parametersWords ps count list) n o
+  unfolding parametersWords
+  parameters-poured ps count list b a = poured-both b a
+
+  pub head-poured : (start x y : ℕ) {l₁ : List ℕ} {i : ℕ} → Poured l₁ i (letters x y) n o → Poured l 0 (opening 67 start) i l₁ → Poured l 0 (commandHead start x y) n o
+  unfolding commandHead
+  head-poured start x y b a = poured-both b a
+
+  pub command-poured : (c : Command) (count start : ℕ) (list : List ℤ) {l₁ l₂ : List ℕ} {i j : ℕ} → Poured l₂ j (10 ∷ []) n o → Poured l₁ i (parametersWords (c .parameters) count list) j l₂ → Poured l 0 (commandHead start (c .first) (c .second)) i l₁ → Poured l 0 (commandLine c count start list) n o
+  unfolding commandLine
+  command-poured c k s v d b a = poured-both d (poured-both b a)
+
+  pub last-poured : (more : Bool) (k : ℕ) {x : ℕ} {l₁ : List ℕ} {i : ℕ} → Poured l₁ i (10 ∷ []) n o → Poured l 0 (opening x k) i l₁ → x ≡ lastLetter more → Poured l 0 (lastLine more k) n o
+  unfolding lastLine
+  last-poured m k b a e = rw (← e) (poured-both b a)
+
+-- ---- by item
+
+module _ (it : Item) (start : ℕ) (list : List ℤ) where
+  pub line-nothing : (l : List ℕ) → it ≡ Nothing → length l * 1 < 2 ^ 63 → Poured l 0 (lineOf it start list) 0 l
+  unfolding lineOf
+  line-nothing l g h = rw g (poured-none l 0 h)
+
+  pub line-not-read : (l : List ℕ) {e : Refusal} {p : ℕ} → it ≡ NotRead e p → length l * 1 < 2 ^ 63 → Poured l 0 (lineOf it start list) 0 l
+  unfolding lineOf
+  line-not-read l g h = rw g (poured-none l 0 h)
+
+  module _ {l o : List ℕ} {n : ℕ} where
+    pub line-text : {b m : ℕ} → it ≡ Text b m → Poured l 0 (textLine start b) n o → Poured l 0 (lineOf it start list) n o
+    unfolding lineOf
+    line-text g h = rw g h
+
+    pub line-done : {c : Command} {k m : ℕ} {kept : Remembered} → it ≡ Done c k m kept → Poured l 0 (commandLine c k start list) n o → Poured l 0 (lineOf it start list) n o
+    unfolding lineOf
+    line-done g h = rw g h
+
+    pub line-refused : {e : Refusal} {p m : ℕ} → it ≡ Refused e p m → Poured l 0 (refusedLine start (numberOf e) p) n o → Poured l 0 (lineOf it start list) n o
+    unfolding lineOf
+    line-refused g h = rw g h
+
+pub ruleset items = (line-nothing, line-not-read, line-text, line-done, line-refused, poured-long)
+
+-- ---- poured on nothing, to learn the length; and then on the lent bytes
+
+module _ (w l : List ℕ) {q : List ℕ} {m : ℕ} (dry : Poured [] 0 w m q) where
+  kept : q ++ l ≡ l
+  kept = let e : q ≡ [] = dry .stands ∙ past-end [] 0 w (omega arith) in rw e
+
+  size : m ≡ min (length w) far
+  unfolding behind
+  size = omega (arith, dry .next)
+
+  pub line-kept : (e : Refusal) → q ++ l ≡ afterWrite (writtenOf (NotWritten e)) w l 0
+  unfolding writtenOf afterWrite
+  line-kept e = kept
+
+  pub line-short : length (q ++ l) < m → writtenOf (NotWritten TooShort) ≡ writeAt w (length l) 0
+  unfolding writtenOf writeAt
+  line-short h =
+      let z = size in
+      let i : length l < m = rw kept at h in
+      rw (lt-leb (0 + length w) (length l) (omega arith))
+
+  module _ {o : List ℕ} {n : ℕ} (wet : Poured (q ++ l) 0 w n o) where
+    pub line-stands : o ≡ afterWrite (writtenOf (Next n)) w l 0
+    unfolding writtenOf afterWrite
+    line-stands = rw kept at (wet .stands)
+
+    pub line-fits : m ≤ length (q ++ l) → writtenOf (Next n) ≡ writeAt w (length l) 0
+    unfolding writtenOf writeAt behind
+    line-fits h =
+        let i : m ≤ length l = rw kept at h in
+        let j : length l < far = rw kept at (wet .room) in
+        let z : n ≡ 0 + length w = omega (arith, size, wet .next) in
+        rw (le-leb (0 + length w) (length l) (omega (arith, size)), z)
+
+pub ruleset writings = (line-kept, line-short, line-stands, line-fits, poured-long)

@@ -1,0 +1,13 @@
+use borrow.Author.Needs.{needs}
+use Rattle.lines.proofs.Held.{holdings}
+use Rattle.lines.proofs.of_three.Statement.{statement}
+use Rattle.lines.proofs.of_three.Tie as tie
+use Rattle.lines.proofs.of_three.Reads as reads
+use Rattle.lines.proofs.of_three.Lts as lts
+
+-- src/lib.rt:115:1
+returns : tie.Need-returns
+returns c = search (needs, holdings)
+
+pub of-three-spec : {M : Type 1} → statement M
+of-three-spec = tie.close (tie.spec returns)
