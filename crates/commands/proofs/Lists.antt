@@ -147,3 +147,65 @@ pub ruleset tails = (list-few, list-ok, list-poured, tail-ok, tail-poured, no-ta
 
 pub after-kind : (kept : Remembered) (ps : Parameters) {q : Parameters} {k : Remembered} → ps ≡ q → k ≡ afterValues kept (valuesOf q) → k ≡ afterValues kept (valuesOf ps)
 after-kind kept ps g j = rw g j
+
+-- ---- the whole command
+
+module _ (kept : Remembered) (c : Command) (es : List ℤ) (h : isCommand kept c es ≡ true) where
+  rest₁ : inside (kept .point) && (areValues (valuesOf (c .parameters)) && isTail (tailOf (c .parameters)) es) ≡ true
+  unfolding isCommand
+  rest₁ = and-right (isKind (c .first) (c .second) (c .parameters)) (inside (kept .point) && (areValues (valuesOf (c .parameters)) && isTail (tailOf (c .parameters)) es)) h
+
+  rest₂ : areValues (valuesOf (c .parameters)) && isTail (tailOf (c .parameters)) es ≡ true
+  rest₂ = and-right (inside (kept .point)) (areValues (valuesOf (c .parameters)) && isTail (tailOf (c .parameters)) es) rest₁
+
+  pub command-inside : inside (kept .point) ≡ true
+  command-inside = and-left (inside (kept .point)) (areValues (valuesOf (c .parameters)) && isTail (tailOf (c .parameters)) es) rest₁
+
+  pub command-values : areValues (valuesOf (c .parameters)) ≡ true
+  command-values = and-left (areValues (valuesOf (c .parameters))) (isTail (tailOf (c .parameters)) es) rest₂
+
+  pub command-tail : isTail (tailOf (c .parameters)) es ≡ true
+  command-tail = and-right (areValues (valuesOf (c .parameters))) (isTail (tailOf (c .parameters)) es) rest₂
+
+pub command-poured : (kept : Remembered) (c : Command) (es : List ℤ) {k : Remembered} (l m o q : List ℕ) (n r : ℕ) → m ≡ sets l 0 (sent kept (27 ∷ c .first ∷ c .second ∷ [])) → Poured (spellValues kept (valuesOf (c .parameters))) 10 m o 3 n → k ≡ afterValues kept (valuesOf (c .parameters)) → Poured (spellTail k (tailOf (c .parameters)) es) 771 o q (3 + n) r → Poured (spellCommand kept c es) 1000 l q 0 (3 + n + r)
+unfolding sent spellCommand spellParameters
+command-poured kept c es l m o q n r em f ek g =
+    let head : List ℕ = 27 ∷ c .first ∷ c .second ∷ [] in
+    let vs = valuesOf (c .parameters) in
+    let w = spellValues kept vs in
+    let t = spellTail (afterValues kept vs) (tailOf (c .parameters)) es in
+    let first : Poured head 3 l m 0 3 = record { size = refl; stand = em; few = omega arith } in
+    let two : Poured (head ++ w) 13 l o 0 (3 + n) = poured-both head w 3 10 13 l m o 0 3 n first f (omega arith) in
+    let y : 0 + (3 + n) ≡ 3 + n = omega arith in
+    let g′ : Poured t 771 o q (0 + (3 + n)) r = rw (y, ← ek) g in
+    rw (← append-assoc head w t) (poured-both (head ++ w) t 13 771 1000 l o q 0 (3 + n) r two g′ (omega arith))
+
+pub ruleset commands = (command-inside, command-values, command-tail, command-poured)
+
+-- ---- written, or refused
+
+pub writable : (kept : Remembered) (c : Command) (es : List ℤ) {t : Bool} → t ≡ isCommand kept c es → t ≡ true → isCommand kept c es ≡ true
+writable kept c es e h = sym e ∙ h
+
+pub not-writable : (kept : Remembered) (c : Command) (es : List ℤ) (room : ℕ) {t : Bool} → t ≡ isCommand kept c es → t ≡ false → writtenOf (NotWritten NotValid) ≡ writeCommand kept c es room
+unfolding writeIf writtenOf
+not-writable kept c es room e h = rw (← e, h)
+
+module _ (kept : Remembered) (c : Command) (es : List ℤ) {t : Bool} (e : t ≡ isCommand kept c es) (h : t ≡ true) (l o : List ℕ) {size : ℕ} (f : Poured (spellCommand kept c es) 1000 l o 0 size) where
+  pub too-short : (room : ℕ) → room < size → writtenOf (NotWritten TooShort) ≡ writeCommand kept c es room
+  unfolding writeIf writeAt writtenOf
+  too-short room k =
+      let n : 0 + length (spellCommand kept c es) ≡ size = omega (arith, f .size) in
+      rw (← e, h, n, lt-leb size room k)
+
+  pub all-written : (room : ℕ) → size ≤ room → writtenOf (Next size) ≡ writeCommand kept c es room
+  unfolding writeIf writeAt writtenOf
+  all-written room k =
+      let n : 0 + length (spellCommand kept c es) ≡ size = omega (arith, f .size) in
+      rw (← e, h, n, le-leb size room k)
+
+pub stands-written : (w : List ℕ) (l o : List ℕ) (n k r : ℕ) → Poured w k l o 0 r → o ≡ afterWrite (writtenOf (Next n)) w l 0
+unfolding afterWrite writtenOf
+stands-written w l o n k r f = f .stand
+
+pub ruleset writings = (writable, not-writable, too-short, all-written, stands-written)

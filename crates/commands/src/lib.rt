@@ -440,11 +440,11 @@ fn pour_command(kept: Remembered, command: Command, list: &[i32], out: &mut [u8]
 {
     let parameters = command.parameters;
     let head = [27, command.first, command.second];
-    let three = wire::pour(kept, &head, out, 0);
+    wire::pour(kept, &head, out, 0);
     let n = pour_values(kept, parameters, out, 3);
     let next = 3 + n;
     let m = pour_tail(remembered_after(kept, parameters), parameters, list, out, next);
-    three + n + m
+    next + m
 }
 
 // The command's shortest spelling from the front of `out` on: 8 for what may not be written, then 7.
@@ -452,7 +452,9 @@ pub fn write_command(kept: Remembered, command: Command, list: &[i32], out: &mut
     ensures { λ r. ⌜ (writtenOf r ≡ writeCommand kept command (now (list .entry)) (length (now (out .entry)))) × (now (out .exit) ≡ afterWrite (writtenOf r) (spellCommand kept command (now (list .entry))) (now (out .entry)) 0) ⌝ }
 {
     if is_writable(kept, command, list) {
-        let size = pour_command(kept, command, list, &mut out[..0]);
+        // with hardly any room it only finds the length
+        let mut scratch = [0u8; 1];
+        let size = pour_command(kept, command, list, &mut scratch);
         if size > out.len() {
             return Written::NotWritten(Refusal::TooShort);
         }
