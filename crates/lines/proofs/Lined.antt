@@ -115,7 +115,7 @@ module _ (it : Item) (start : ℕ) (list : List ℤ) where
     unfolding lineOf
     line-done g h = rw g h
 
-    pub line-refused : {e : Refusal} {p m : ℕ} → it ≡ Refused e p m → Poured l 0 (refusedLine start (numberOf e) p) n o → Poured l 0 (lineOf it start list) n o
+    pub line-refused : {e : Refusal} {p m : ℕ} {k : Remembered} → it ≡ Refused e p m k → Poured l 0 (refusedLine start (numberOf e) p) n o → Poured l 0 (lineOf it start list) n o
     unfolding lineOf
     line-refused g h = rw g h
 

@@ -30,7 +30,7 @@ examples =
     -- C 1 LF 0 100
     ∷ item (command 76 70 (P.OnePoint (record { x = 0; y = 100 })) 0) 1 [] (67 ∷ 32 ∷ 49 ∷ 32 ∷ 76 ∷ 70 ∷ 32 ∷ 48 ∷ 32 ∷ 49 ∷ 48 ∷ 48 ∷ 10 ∷ [])
     -- R 6 2 8
-    ∷ item (Refused UnknownCommand 8 9) 6 [] (82 ∷ 32 ∷ 54 ∷ 32 ∷ 50 ∷ 32 ∷ 56 ∷ 10 ∷ [])
+    ∷ item (Refused UnknownCommand 8 9 freshMemory) 6 [] (82 ∷ 32 ∷ 54 ∷ 32 ∷ 50 ∷ 32 ∷ 56 ∷ 10 ∷ [])
     -- C 9 KA 0
     ∷ item (command 75 65 (P.Single (pos 0)) 0) 9 [] (67 ∷ 32 ∷ 57 ∷ 32 ∷ 75 ∷ 65 ∷ 32 ∷ 48 ∷ 10 ∷ [])
     -- E 13

@@ -75,7 +75,7 @@ unfoldable pub lineOf : Item → ℕ → List ℤ → List ℕ
 lineOf Nothing start list = []
 lineOf (Text b n) start list = textLine start b
 lineOf (Done c k n kept) start list = commandLine c k start list
-lineOf (Refused e p n) start list = refusedLine start (numberOf e) p
+lineOf (Refused e p n k) start list = refusedLine start (numberOf e) p
 lineOf (NotRead e p) start list = []
 
 -- "Last: E and the bytes read, or M 4096 if more input follows"

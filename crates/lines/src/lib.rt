@@ -270,7 +270,7 @@ fn put_line(item: Item, start: usize, list: &[i32], out: &mut [u8]) -> usize
         Item::Nothing => 0,
         Item::Text(b, _) => put_text(start, b, out),
         Item::Done(command, count, _, _) => put_command(command, count, start, list, out),
-        Item::Refused(refusal, place, _) => put_refused(start, refusal, place, out),
+        Item::Refused(refusal, place, _, _) => put_refused(start, refusal, place, out),
         Item::NotRead(_, _) => 0,
     }
 }

@@ -28,9 +28,9 @@ fn behind(item: Item, start: usize, kept: Remembered) -> Going {
             start: next,
             kept: after,
         },
-        Item::Refused(_, _, next) => Going {
+        Item::Refused(_, _, next, before) => Going {
             start: next,
-            kept: kept,
+            kept: before,
         },
         Item::NotRead(_, _) => Going {
             start: start,

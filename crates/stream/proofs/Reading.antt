@@ -64,10 +64,10 @@ pub ruleset passings = (passing-none, passing-more, passing-stop, passing-end)
 apart : {A : Type 0} {t : A} {e p : ℕ} → done t ≡ refused e p → ⊥
 apart q = let z : _≡_ {A = ℕ} 0 1 = cc in omega arith
 
-whole-of : (s : List ℕ) (a : Answer Meaning) (t : Told) → done t ≡ told a → command t ≡ toldItem (asItem s a)
+whole-of : (kept : Remembered) (s : List ℕ) (a : Answer Meaning) (t : Told) → done t ≡ told a → command t ≡ toldItem (asItem kept s a)
 unfolding told toldItem
-whole-of s (done m) t e = let q : t ≡ tell m = cc in ap command q
-whole-of s (refused x p) t e = absurd (apart e)
+whole-of kept s (done m) t e = let q : t ≡ tell m = cc in ap command q
+whole-of kept s (refused x p) t e = absurd (apart e)
 
 broken-of : (a : Answer Meaning) (x p : ℕ) → refused x p ≡ told a → a ≡ refused x p
 unfolding told
@@ -75,20 +75,20 @@ broken-of (done m) x p e = absurd (apart (sym e))
 broken-of (refused y q) x p e = let i : y ≡ x = cc in let j : q ≡ p = cc in rw (i, j)
 
 -- the list behind an item is that behind its command
-list-same : (s : List ℕ) (a : Answer Meaning) (l : List ℤ) → afterEntries a l ≡ afterItem (asItem s a) l
+list-same : (kept : Remembered) (s : List ℕ) (a : Answer Meaning) (l : List ℤ) → afterEntries a l ≡ afterItem (asItem kept s a) l
 unfolding afterEntries afterItem
-list-same s (done m) l = refl
-list-same s (refused e p) l = by-pick (λ i. l ≡ afterItem i l) (eqb e 7) _ _ (λ t. refl) (λ t. refl)
+list-same kept s (done m) l = refl
+list-same kept s (refused e p) l = by-pick (λ i. l ≡ afterItem i l) (eqb e 7) _ _ (λ t. refl) (λ t. refl)
 
 module _ (kept : Remembered) (s : List ℕ) (start room : ℕ) where
   pub list-kept : (l : List ℤ) {o : List ℤ} → o ≡ afterEntries (commandAt kept s start room) l → o ≡ afterItem (commandItem kept s start room) l
   unfolding commandItem
-  list-kept l j = j ∙ list-same s (commandAt kept s start room) l
+  list-kept l j = j ∙ list-same kept s (commandAt kept s start room) l
 
   module _ {r : CommandRead} (er : commandOf r ≡ told (commandAt kept s start room)) where
     pub item-done : {c : Command} {k n : ℕ} {m : Remembered} → r ≡ Whole c k n m → itemOf (Done c k n m) ≡ toldItem (commandItem kept s start room)
     unfolding commandItem itemOf commandOf
-    item-done g = whole-of s (commandAt kept s start room) _ (sym (rw g) ∙ er)
+    item-done g = whole-of kept s (commandAt kept s start room) _ (sym (rw g) ∙ er)
 
     module _ {x : Refusal} {p : ℕ} (g : r ≡ Broken x p) {v : ℕ} (ev : v ≡ numberOf x) where
       broken : commandAt kept s start room ≡ refused (numberOf x) p
@@ -99,7 +99,7 @@ module _ (kept : Remembered) (s : List ℕ) (start room : ℕ) where
       unfolding commandItem itemOf toldItem
       item-unread h = rw (broken, ← ev, eq-eqb v 7 h)
 
-      pub item-refused : {n : ℕ} → (v ≡ 7 → ⊥) → n ≡ passedFrom s p → itemOf (Refused x p n) ≡ toldItem (commandItem kept s start room)
+      pub item-refused : {n : ℕ} → (v ≡ 7 → ⊥) → n ≡ passedFrom s p → itemOf (Refused x p n kept) ≡ toldItem (commandItem kept s start room)
       unfolding commandItem itemOf toldItem
       item-refused h j = rw (broken, ← ev, ne-eqb v 7 h, j)
 

@@ -15,13 +15,13 @@ use Rattle.commands.specs.Reading.{Meaning, Told, tell, commandAt}
 use Rattle.stream.specs.declared.Item.{Item}
 use Rattle.stream.specs.declared.Item.the-variants.{Nothing, Text, Done, Refused, NotRead}
 
--- an item: none is left, a text byte and the next start, a command, a refused command with its number, place and the next start; or no
--- item at all, for a number and its place
+-- an item: none is left; a text byte and the next start; a command; a refused command with its number, its place, the next start and
+-- what is remembered; or no item at all, for a number and its place
 pub data Itemed (A : Type 0) : Type 0 where
   nothing : Itemed A
   text : ℕ → ℕ → Itemed A
   command : A → Itemed A
-  trouble : ℕ → ℕ → ℕ → Itemed A
+  trouble : ℕ → ℕ → ℕ → Remembered → Itemed A
   unread : ℕ → ℕ → Itemed A
 
 -- how many bytes stand before the next 27
@@ -32,13 +32,14 @@ passed (b ∷ bs) = pick (eqb b 27) 0 (suc (passed bs))
 unfoldable pub passedFrom : List ℕ → ℕ → ℕ
 passedFrom s at = at + passed (drop at s)
 
--- a command that was read, or refused: 7 "makes no item", "nothing is passed over"
-abbrev pub asItem : List ℕ → Answer Meaning → Itemed Meaning
-asItem s (done m) = command m
-asItem s (refused e p) = pick (eqb e 7) (unread e p) (trouble e p (passedFrom s p))
+-- a command that was read, or refused: 7 "makes no item", "nothing is passed over"; "the remembered point after a refused command is that
+-- before it"
+abbrev pub asItem : Remembered → List ℕ → Answer Meaning → Itemed Meaning
+asItem kept s (done m) = command m
+asItem kept s (refused e p) = pick (eqb e 7) (unread e p) (trouble e p (passedFrom s p) kept)
 
 unfoldable pub commandItem : Remembered → List ℕ → ℕ → ℕ → Itemed Meaning
-commandItem kept s start room = asItem s (commandAt kept s start room)
+commandItem kept s start room = asItem kept s (commandAt kept s start room)
 
 -- "Reading: first 8, with place 0, for a start past the end or a remembered point outside 0..4095; a start at the end answers that no item
 -- is left."
@@ -58,7 +59,7 @@ unfoldable pub toldItem : Itemed Meaning → Itemed Told
 toldItem nothing = nothing
 toldItem (text b n) = text b n
 toldItem (command m) = command (tell m)
-toldItem (trouble e p n) = trouble e p n
+toldItem (trouble e p n k) = trouble e p n k
 toldItem (unread e p) = unread e p
 
 unfoldable pub itemOf : Item → Itemed Told
@@ -66,12 +67,12 @@ itemOf Nothing = nothing
 itemOf (Text b n) = text b n
 itemOf (Done c k n m) =
     command (record { first = c .first; second = c .second; values = valuesOf (c .parameters); tail = tailOf (c .parameters); count = k; next = n; kept = m })
-itemOf (Refused e p n) = trouble (numberOf e) p n
+itemOf (Refused e p n k) = trouble (numberOf e) p n k
 itemOf (NotRead e p) = unread (numberOf e) p
 
 unfoldable pub afterItem : Itemed Meaning → List ℤ → List ℤ
 afterItem nothing l = l
 afterItem (text b n) l = l
 afterItem (command m) l = sets l 0 (m .entries)
-afterItem (trouble e p n) l = l
+afterItem (trouble e p n k) l = l
 afterItem (unread e p) l = l

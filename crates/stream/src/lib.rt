@@ -14,8 +14,8 @@ pub enum Item {
     Text(u8, usize),
     // a command, how many entries the list now has at its front, where the next item starts, and what is then remembered
     Done(Command, usize, usize, Remembered),
-    // a refused command: the refusal, its place, and where the next item starts
-    Refused(Refusal, usize, usize),
+    // a refused command: the refusal, its place, where the next item starts, and what is remembered, as before it
+    Refused(Refusal, usize, usize, Remembered),
     // nothing was read and there is no item: the refusal and its place
     NotRead(Refusal, usize),
 }
@@ -44,7 +44,7 @@ fn command_item(kept: Remembered, s: &[u8], start: usize, list: &mut [i32]) -> I
             if refusals::number(e) == 7 {
                 return Item::NotRead(e, p);
             }
-            Item::Refused(e, p, next_escape(s, p))
+            Item::Refused(e, p, next_escape(s, p), kept)
         }
     }
 }
