@@ -110,7 +110,15 @@ fn entry_kind(parameters: Parameters) -> Entry
 }
 
 // The parameters of the command whose ESC is at `start` and whose letters are known.
-fn body(kept: Remembered, first: u8, second: u8, kind: Kind, s: &[u8], start: usize, list: &mut [i32]) -> CommandRead
+fn body(
+    kept: Remembered,
+    first: u8,
+    second: u8,
+    kind: Kind,
+    s: &[u8],
+    start: usize,
+    list: &mut [i32],
+) -> CommandRead
     requires { ⌜ start < length (now s) ⌝ }
     ensures { λ r. ⌜ (commandOf r ≡ told (bodyAt kept first second kind (now (s .entry)) start (length (now (list .entry))))) × (now (list .exit) ≡ afterEntries (bodyAt kept first second kind (now (s .entry)) start (length (now (list .entry)))) (now (list .entry))) ⌝ }
 {
@@ -245,7 +253,10 @@ fn values_fit(parameters: Parameters) -> bool
     match parameters {
         Parameters::Single(a) => is_entry(Entry::AnInteger, a),
         Parameters::Double(a, b) => two_fit(Entry::AnInteger, a, b),
-        Parameters::Triple(a, b, d) => both(two_fit(Entry::AnInteger, a, b), is_entry(Entry::AnInteger, d)),
+        Parameters::Triple(a, b, d) => both(
+            two_fit(Entry::AnInteger, a, b),
+            is_entry(Entry::AnInteger, d),
+        ),
         Parameters::OnePoint(p) => memory::is_inside(p),
         Parameters::Corners(p, q) => both(memory::is_inside(p), memory::is_inside(q)),
         Parameters::Scale(r) => two_fit(Entry::AnInteger, r.mantissa, r.exponent),
@@ -395,7 +406,13 @@ fn pour_list(kept: Remembered, entry: Entry, list: &[i32], out: &mut [u8], at: u
     n + m
 }
 
-fn pour_tail(kept: Remembered, parameters: Parameters, list: &[i32], out: &mut [u8], at: usize) -> usize
+fn pour_tail(
+    kept: Remembered,
+    parameters: Parameters,
+    list: &[i32],
+    out: &mut [u8],
+    at: usize,
+) -> usize
     requires { ⌜ (isTail (tailOf parameters) (now list) ≡ true) × (at ≤ 58) ⌝ }
     ensures { λ r. ⌜ Poured (spellTail kept (tailOf parameters) (now (list .entry))) 771 (now (out .entry)) (now (out .exit)) at r ⌝ }
 {
@@ -443,7 +460,13 @@ fn pour_command(kept: Remembered, command: Command, list: &[i32], out: &mut [u8]
     wire::pour(kept, &head, out, 0);
     let n = pour_values(kept, parameters, out, 3);
     let next = 3 + n;
-    let m = pour_tail(remembered_after(kept, parameters), parameters, list, out, next);
+    let m = pour_tail(
+        remembered_after(kept, parameters),
+        parameters,
+        list,
+        out,
+        next,
+    );
     next + m
 }
 

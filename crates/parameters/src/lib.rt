@@ -224,7 +224,12 @@ fn look_triple(kept: Remembered, s: &[u8], at: usize) -> Look
 {
     match pair(kept, Entry::AnInteger, s, at) {
         PairRead::Both(a, b, n) => match numbers::read_integer(kept, s, n) {
-            IntegerRead::Integer(d, _, m) => Look::Whole(Parameters::Triple(a, b, d), no_run(), m, kept),
+            IntegerRead::Integer(d, _, m) => Look::Whole(
+                Parameters::Triple(a, b, d),
+                no_run(),
+                m,
+                kept,
+            ),
             IntegerRead::NoInteger(e, p) => Look::Broken(e, p),
         },
         PairRead::NotBoth(e, p) => Look::Broken(e, p),
@@ -236,7 +241,12 @@ fn look_point(kept: Remembered, s: &[u8], at: usize) -> Look
 {
     match points::read_point(kept, s, at) {
         PointRead::At(point, _, n) => {
-            Look::Whole(Parameters::OnePoint(point), no_run(), n, memory::with_point(kept, point))
+            Look::Whole(
+                Parameters::OnePoint(point),
+                no_run(),
+                n,
+                memory::with_point(kept, point),
+            )
         }
         PointRead::NoPoint(e, p) => Look::Broken(e, p),
     }
@@ -251,7 +261,12 @@ fn look_corners(kept: Remembered, s: &[u8], at: usize) -> Look
             let then = memory::with_point(kept, one);
             match points::read_point(then, s, n) {
                 PointRead::At(two, _, m) => {
-                    Look::Whole(Parameters::Corners(one, two), no_run(), m, memory::with_point(then, two))
+                    Look::Whole(
+                        Parameters::Corners(one, two),
+                        no_run(),
+                        m,
+                        memory::with_point(then, two),
+                    )
                 }
                 PointRead::NoPoint(e, p) => Look::Broken(e, p),
             }
