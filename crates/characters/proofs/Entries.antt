@@ -9,7 +9,7 @@ use lib.IntN.{ℤ, pos, negsuc, natAbs}
 use mir.Syntax.{w32}
 use mir.Val.{SFits, toZ, ofZ}
 use mir.Facts.{toZ-ofZ}
-use Rattle.refusals.proofs.Cases.{zero-one, and-right}
+use Rattle.refusals.proofs.Cases.{zero-one, and-left, and-right}
 use Rattle.numbers.specs.Integers.{isNegative}
 use Rattle.characters.specs.Characters.{isCharacter}
 
@@ -48,3 +48,9 @@ low-byte v f e = ap (λ (k : ℕ). k % 256) (rw (toZ-ofZ f) at e)
 pub a-byte : (v : ℤ) → isCharacter v ≡ true → natAbs v % 256 ≡ natAbs v
 a-byte (pos n) e = let h : n ≤ 127 = leb-true n 127 (and-right (leb 32 n) (leb n 127) e) in omega arith
 a-byte (negsuc n) e = let k : _≡_ {A = ℕ} 0 1 = cc in absurd (zero-one k)
+
+-- what a character is as a number
+pub character-range : (v : ℤ) → isCharacter v ≡ true → (32 ≤ natAbs v) × ((natAbs v ≤ 127) × (pos (natAbs v) ≡ v))
+character-range (pos n) e =
+    (leb-true 32 n (and-left (leb 32 n) (leb n 127) e), (leb-true n 127 (and-right (leb 32 n) (leb n 127) e), refl))
+character-range (negsuc n) e = let k : _≡_ {A = ℕ} 0 1 = cc in absurd (zero-one k)

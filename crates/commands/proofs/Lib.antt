@@ -2,3 +2,4 @@ pub mod Heads
 pub mod Fitting
 pub mod Pouring
 pub mod Lists
+pub mod RoundTrip

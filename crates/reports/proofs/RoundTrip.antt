@@ -14,6 +14,7 @@ use Rattle.refusals.proofs.Cases.{and-left, and-right, zero-one}
 use Rattle.wire.proofs.Feeds.{Stands, stands-between, stands-left, stands-right}
 use Rattle.numbers.specs.Integers.{signedOf, isNegative, lowOf}
 use Rattle.numbers.specs.Counts.{countIn}
+use Rattle.characters.proofs.Entries.{character-range}
 use Rattle.characters.specs.Characters.{isCharacter, areCharacters, bytesOf}
 use Rattle.reports.specs.Reading.{within, reportValue, reportFrom, reportAt, charactersEnd, stringAt, entriesAt}
 use Rattle.reports.specs.Writing.{spellReportOf, spellReport, isReport, spellString, isString}
@@ -65,11 +66,6 @@ pub report-round : (before after : List ℕ) (v : ℤ) → isReport v ≡ true �
 report-round before after v ok = report-back (before ++ (spellReport v ++ after)) (length before) v ok (stands-between before (spellReport v) after)
 
 -- ---- string reports
-
-character-range : (v : ℤ) → isCharacter v ≡ true → (32 ≤ natAbs v) × ((natAbs v ≤ 127) × (pos (natAbs v) ≡ v))
-character-range (pos n) e =
-    (leb-true 32 n (and-left (leb 32 n) (leb n 127) e), (leb-true n 127 (and-right (leb 32 n) (leb n 127) e), refl))
-character-range (negsuc n) e = let k : _≡_ {A = ℕ} 0 1 = cc in absurd (zero-one k)
 
 run-back : (vs : List ℤ) (s : List ℕ) (at : ℕ) → areCharacters vs ≡ true → Stands s at (bytesOf vs) → charactersEnd (length vs) s at ≡ done (at + length vs)
 unfolding endsAfter
