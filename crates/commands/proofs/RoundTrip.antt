@@ -82,3 +82,85 @@ entries-back e kept s (v ∷ vs) at ok st =
     let (f, g) = entries-back e kept s vs (at + length w) (q .1) (stands-right s at w rest st) in
     let z : at + length w + length rest ≡ at + length (w ++ rest) = omega (arith, length-append w rest) in
     (rw (er, en) (f ∙ ap done z), rw (er, en, ev, g))
+
+-- ---- the fixed values
+
+abbrev partOf : Value → Part
+partOf (number e v) = single e
+partOf (scaled m x) = real
+partOf (place p) = point
+
+module _ (s : List ℕ) where
+  value-back : (kept : Remembered) (v : Value) (at : ℕ) → inside (kept .point) ≡ true → isValue v ≡ true → Stands s at (spellValue kept v) → partAt kept (partOf v) s at ≡ done (record { values = v ∷ []; next = at + length (spellValue kept v); kept = afterValue kept v })
+  unfolding partAt pairAt entryAt spellEntry
+  value-back kept (number e v) at i ok st =
+      let (r, (er, (ev, en))) = got (entryAt e kept s at) v (at + length (spellEntry e kept v)) (entry-back e kept s at v ok st) in
+      rw (er, ev, en)
+  value-back kept (scaled m x) at i ok st =
+      let a = sent kept (spell m) in
+      let b = sent kept (spell x) in
+      let om = and-left (isInteger m) (isInteger x) ok in
+      let ox = and-right (isInteger m) (isInteger x) ok in
+      let (r, (er, (ev, en))) = got (integerAt kept s at) m (at + length a) (integer-back kept m om s at (stands-left s at a b st)) in
+      let (q, (eq, (ew, em))) = got (integerAt kept s (at + length a)) x (at + length a + length b) (integer-back kept x ox s (at + length a) (stands-right s at a b st)) in
+      let z : at + length a + length b ≡ at + length (a ++ b) = omega (arith, length-append a b) in
+      rw (er, ev, en, eq, ew, em, z)
+  value-back kept (place p) at i ok st =
+      let w = sent kept (spellPoint (kept .point) p) in
+      let (r, (er, (ev, en))) = got (pointAt kept s at) p (at + length w) (point-back kept p i ok s at st) in
+      rw (er, ev, en)
+
+  still-inside : (kept : Remembered) (v : Value) → inside (kept .point) ≡ true → isValue v ≡ true → inside (afterValue kept v .point) ≡ true
+  still-inside kept (number e v) i ok = i
+  still-inside kept (scaled m x) i ok = i
+  still-inside kept (place p) i ok = ok
+
+  values-back : (kept : Remembered) (vs : List Value) (at : ℕ) → inside (kept .point) ≡ true → areValues vs ≡ true → Stands s at (spellValues kept vs) → fixedAt kept (map partOf vs) s at ≡ done (record { values = vs; next = at + length (spellValues kept vs); kept = afterValues kept vs })
+  unfolding fixedAt spellValues afterValues
+  values-back kept [] at i ok st = let z : at ≡ at + 0 = omega arith in ap (λ (n : ℕ). done (record { values = []; next = n; kept = kept })) z
+  values-back kept (v ∷ vs) at i ok st =
+      let w = spellValue kept v in
+      let rest = spellValues (afterValue kept v) vs in
+      let q = split isValue v vs ok in
+      let f = value-back kept v at i (q .0) (stands-left s at w rest st) in
+      let g = values-back (afterValue kept v) vs (at + length w) (still-inside kept v i (q .0)) (q .1) (stands-right s at w rest st) in
+      let z : at + length w + length rest ≡ at + length (w ++ rest) = omega (arith, length-append w rest) in
+      rw (f, g, z)
+
+  -- ---- the list behind them
+
+  -- the entries that go with a tail
+  abbrev listed : Tail → List ℤ → List ℤ
+  listed none es = []
+  listed (counted e) es = es
+
+  record TailBack (kept : Remembered) (t : Tail) (es : List ℤ) (at : ℕ) : Type 0 where
+    held : Held
+    reads : tailAt kept t s at ≡ done held
+    number-is : held .count ≡ length (listed t es)
+    next-is : held .next ≡ at + length (spellTail kept t es)
+    entries-are : entriesFrom (entryIn t) kept (held .count) s (held .start) ≡ listed t es
+
+  tail-back : (kept : Remembered) (t : Tail) (es : List ℤ) (at : ℕ) → isTail t es ≡ true → Stands s at (spellTail kept t es) → TailBack kept t es at
+  unfolding tailAt spellTail isTail runAt allAfter
+  tail-back kept none es at ok st = record {
+    held = record { start = 0; count = 0; next = at };
+    reads = refl;
+    number-is = refl;
+    next-is = omega arith;
+    entries-are = refl;
+  }
+  tail-back kept (counted e) es at ok st =
+      let w = sent kept (spell (pos (length es))) in
+      let rest = spellEntries e kept es in
+      let few = leb-true (length es) 256 (and-left (leb (length es) 256) (areEntries e es) ok) in
+      let good = and-right (leb (length es) 256) (areEntries e es) ok in
+      let (r, (er, (ev, en))) = got (countAt kept s at) (length es) (at + length w) (count-back kept s at (length es) few (stands-left s at w rest st)) in
+      let (f, g) = entries-back e kept s es (at + length w) good (stands-right s at w rest st) in
+      record {
+        held = record { start = at + length w; count = length es; next = at + length w + length rest };
+        reads = rw (er, ev, en, f);
+        number-is = refl;
+        next-is = omega (arith, length-append w rest);
+        entries-are = g;
+      }
