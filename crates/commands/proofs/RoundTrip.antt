@@ -2,7 +2,7 @@
 -- ended, with the same point after it. Said over the kinds of parameter.
 use Prim.Native.Nat.{ℕ, zero, suc, _+_, _≤_, _<_}
 use mathlib.Core.Path.{_≡_, refl, sym, _∙_, ap}
-use mathlib.Core.Bool.{Bool, true, false, _&&_}
+use mathlib.Core.Bool.{Bool, true, false, _&&_, _||_}
 use mathlib.Core.List.{List, [], _∷_, _++_, map}
 use native.Mathlib.Omega.{arith}
 use borrow.Author.Tests.{lt-ltb, le-leb, leb-true, eqb-true, ne-eqb}
@@ -29,7 +29,7 @@ use Rattle.table.specs.declared.Kind.{Kind}
 use Rattle.table.specs.declared.Kind.the-variants as K
 use Rattle.table.specs.declared.Found.{Found}
 use Rattle.table.specs.declared.Found.the-variants.{Is, NoKind}
-use Rattle.table.specs.Table.{Row, table, kindIn, kindOf, beginsIn, begins}
+use Rattle.table.specs.Table.{Row, table, pickFound, kindIn, kindOf, beginsIn, begins}
 use Rattle.parameters.specs.declared.Entry.{Entry}
 use Rattle.parameters.specs.declared.Entry.the-variants.{AnInteger, ACharacter}
 use Rattle.parameters.specs.declared.Parameters.{Parameters}
@@ -39,7 +39,7 @@ use Rattle.parameters.specs.Shapes.{Part, single, real, point, Tail, none, coun
 use Rattle.parameters.specs.Looking.{pairAt, Fixed, partAt, fixedAt, tailAt, Parsed, parametersAt}
 use Rattle.commands.specs.declared.Command.{Command}
 use Rattle.commands.specs.Reading.{letterAt, secondAt, headAt, entryIn, Meaning, meaning, bodyAt, commandAt}
-use Rattle.commands.specs.Writing.{kindFor, kindNumber, isKind, isEntry, areEntries, isValue, areValues, isTail, isCommand, spellEntry, spellEntries, spellValue, afterValue, spellValues, afterValues, spellTail, spellParameters, spellCommand}
+use Rattle.commands.specs.Writing.{kindFor, kindNumber, sameKind, isKind, isEntry, areEntries, isValue, areValues, isTail, isCommand, spellEntry, spellEntries, spellValue, afterValue, spellValues, afterValues, spellTail, spellParameters, spellCommand}
 
 -- what `Reads` says, taken apart
 abbrev Got : {A : Type 0} → Answer (Read A) → A → ℕ → Type 0
@@ -164,3 +164,130 @@ module _ (s : List ℕ) where
         next-is = omega (arith, length-append w rest);
         entries-are = g;
       }
+
+-- ---- letters and kinds
+
+pub shape-is : (ps : Parameters) → shapeOf (kindFor ps) ≡ record { fixed = map partOf (valuesOf ps); tail = tailOf ps }
+shape-is (Single a) = refl
+shape-is (Double a b) = refl
+shape-is (Triple a b c) = refl
+shape-is (OnePoint p) = refl
+shape-is (Corners p q) = refl
+shape-is (Scale r) = refl
+shape-is (Letters a b) = refl
+shape-is Text = refl
+shape-is Array = refl
+shape-is (NumberedText a) = refl
+shape-is (NumberedArray a) = refl
+
+kindNamed : ℕ → Kind
+kindNamed n =
+    getD (K.AnInteger ∷ K.AnInteger ∷ K.TwoIntegers ∷ K.ThreeIntegers ∷ K.APoint ∷ K.TwoPoints ∷ K.AReal ∷ K.AString ∷ K.AnArray ∷ K.IntegerThenArray ∷ K.IntegerThenString ∷ K.TwoCharacters ∷ []) n K.AnInteger
+
+kind-back : (k : Kind) → kindNamed (kindNumber k) ≡ k
+unfolding kindNamed
+kind-back K.AnInteger = refl
+kind-back K.TwoIntegers = refl
+kind-back K.ThreeIntegers = refl
+kind-back K.APoint = refl
+kind-back K.TwoPoints = refl
+kind-back K.AReal = refl
+kind-back K.AString = refl
+kind-back K.AnArray = refl
+kind-back K.IntegerThenArray = refl
+kind-back K.IntegerThenString = refl
+kind-back K.TwoCharacters = refl
+
+same-kind : (k j : Kind) → kindNumber k ≡ kindNumber j → k ≡ j
+same-kind k j e = sym (kind-back k) ∙ ap kindNamed e ∙ kind-back j
+
+letters-kind : (a b : ℕ) (ps : Parameters) → isKind a b ps ≡ true → kindOf a b ≡ Is (kindFor ps)
+unfolding isKind
+letters-kind a b ps = by (kindOf a b)
+  where
+    by : (f : Found) → sameKind f (kindFor ps) ≡ true → f ≡ Is (kindFor ps)
+    by (Is k) e = ap Is (same-kind k (kindFor ps) (eqb-true (kindNumber k) (kindNumber (kindFor ps)) e))
+    by NoKind e = let z : _≡_ {A = ℕ} 0 1 = cc in absurd (zero-one z)
+
+-- letters that a command has begin one
+found-begins : (rows : List Row) (a b : ℕ) {k : Kind} → kindIn rows a b ≡ Is k → beginsIn rows a ≡ true
+found-begins [] a b e = let z : _≡_ {A = ℕ} 0 1 = cc in absurd (zero-one z)
+found-begins (r ∷ rs) a b {k} e = by (eqb a (r .first)) (eqb b (r .second)) (λ g. found-begins rs a b g) e
+  where
+    by : (t u : Bool) → (kindIn rs a b ≡ Is k → beginsIn rs a ≡ true) → pickFound (t && u) (Is (r .kind)) (kindIn rs a b) ≡ Is k → t || beginsIn rs a ≡ true
+    by true u next e = refl
+    by false u next e = next e
+
+and-false : (b : Bool) → b && false ≡ false
+and-false true = refl
+and-false false = refl
+
+no-escape : (a : ℕ) → kindOf a 27 ≡ NoKind
+unfolding kindOf
+no-escape a = simp and-false
+
+first-escape : begins 27 ≡ false
+unfolding begins
+first-escape = refl
+
+-- ---- the whole command
+
+letter-is : (s : List ℕ) (at b : ℕ) → at < length s → getD s at 0 ≡ b → (b ≡ 27 → ⊥) → letterAt s at ≡ done b
+unfolding letterAt
+letter-is s at b i e n = simp (lt-ltb at (length s) i, e, ne-eqb b 27 n)
+
+-- the command c with its entries es was read from start on, in so much room
+pub record Back (kept : Remembered) (c : Command) (es : List ℤ) (s : List ℕ) (start room : ℕ) : Type 0 where
+  pub read : Meaning
+  pub whole : commandAt kept s start room ≡ done read
+  pub first-is : read .first ≡ c .first
+  pub second-is : read .second ≡ c .second
+  pub values-are : read .values ≡ valuesOf (c .parameters)
+  pub tail-is : read .tail ≡ tailOf (c .parameters)
+  pub entries-are : read .entries ≡ listed s (tailOf (c .parameters)) es
+  pub next-is : read .next ≡ start + length (spellCommand kept c es)
+  pub kept-is : read .kept ≡ afterValues kept (valuesOf (c .parameters))
+
+module _ (kept : Remembered) (c : Command) (es : List ℤ) (ok : isCommand kept c es ≡ true) (s : List ℕ) (start : ℕ) (st : Stands s start (spellCommand kept c es)) where
+  ps : Parameters
+  ps = c .parameters
+
+  kind-ok : isKind (c .first) (c .second) (c .parameters) ≡ true
+  unfolding isCommand
+  kind-ok = and-left (isKind (c .first) (c .second) (c .parameters)) _ ok
+
+  found : kindOf (c .first) (c .second) ≡ Is (kindFor (c .parameters))
+  found = letters-kind (c .first) (c .second) (c .parameters) kind-ok
+
+  begun : begins (c .first) ≡ true
+  unfolding kindOf begins
+  begun = found-begins table (c .first) (c .second) found
+
+  first-plain : c .first ≡ 27 → ⊥
+  first-plain e = let z : _≡_ {A = ℕ} 0 1 = let f = first-escape in let g = begun in let h : begins (c .first) ≡ begins 27 = ap begins e in cc in zero-one z
+
+  second-plain : c .second ≡ 27 → ⊥
+  second-plain e =
+      let f = no-escape (c .first) in
+      let h : kindOf (c .first) (c .second) ≡ kindOf (c .first) 27 = ap (kindOf (c .first)) e in
+      let g = found in
+      let z : _≡_ {A = ℕ} 0 1 = cc in zero-one z
+
+  head : List ℕ
+  head = 27 ∷ c .first ∷ c .second ∷ []
+
+  letters : Stands s start (27 ∷ c .first ∷ c .second ∷ [])
+  unfolding spellCommand
+  letters = stands-left s start (27 ∷ c .first ∷ c .second ∷ []) (spellParameters kept (valuesOf (c .parameters)) (tailOf (c .parameters)) es) st
+
+  rest : Stands s (start + 3) (spellParameters kept (valuesOf (c .parameters)) (tailOf (c .parameters)) es)
+  unfolding spellCommand
+  rest = stands-right s start (27 ∷ c .first ∷ c .second ∷ []) (spellParameters kept (valuesOf (c .parameters)) (tailOf (c .parameters)) es) st
+
+  head-back : headAt s (start + 1) ≡ done (record { first = c .first; second = c .second; kind = kindFor (c .parameters) })
+  unfolding headAt secondAt
+  head-back =
+      let z : start + 1 + 1 ≡ start + 2 = omega arith in
+      let a = letter-is s (start + 1) (c .first) (omega (arith, letters .room)) (letters .same 1 (omega arith)) first-plain in
+      let b = letter-is s (start + 2) (c .second) (omega (arith, letters .room)) (letters .same 2 (omega arith)) second-plain in
+      rw (a, begun, z, b, found)
