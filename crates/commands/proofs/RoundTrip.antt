@@ -90,6 +90,11 @@ partOf (number e v) = single e
 partOf (scaled m x) = real
 partOf (place p) = point
 
+-- the entries that go with a tail
+abbrev pub listed : Tail → List ℤ → List ℤ
+listed none es = []
+listed (counted e) es = es
+
 module _ (s : List ℕ) where
   value-back : (kept : Remembered) (v : Value) (at : ℕ) → inside (kept .point) ≡ true → isValue v ≡ true → Stands s at (spellValue kept v) → partAt kept (partOf v) s at ≡ done (record { values = v ∷ []; next = at + length (spellValue kept v); kept = afterValue kept v })
   unfolding partAt pairAt entryAt spellEntry
@@ -128,11 +133,6 @@ module _ (s : List ℕ) where
       rw (f, g, z)
 
   -- ---- the list behind them
-
-  -- the entries that go with a tail
-  abbrev listed : Tail → List ℤ → List ℤ
-  listed none es = []
-  listed (counted e) es = es
 
   record TailBack (kept : Remembered) (t : Tail) (es : List ℤ) (at : ℕ) : Type 0 where
     held : Held
@@ -244,14 +244,11 @@ pub record Back (kept : Remembered) (c : Command) (es : List ℤ) (s : List ℕ)
   pub second-is : read .second ≡ c .second
   pub values-are : read .values ≡ valuesOf (c .parameters)
   pub tail-is : read .tail ≡ tailOf (c .parameters)
-  pub entries-are : read .entries ≡ listed s (tailOf (c .parameters)) es
+  pub entries-are : read .entries ≡ listed (tailOf (c .parameters)) es
   pub next-is : read .next ≡ start + length (spellCommand kept c es)
   pub kept-is : read .kept ≡ afterValues kept (valuesOf (c .parameters))
 
 module _ (kept : Remembered) (c : Command) (es : List ℤ) (ok : isCommand kept c es ≡ true) (s : List ℕ) (start : ℕ) (st : Stands s start (spellCommand kept c es)) where
-  ps : Parameters
-  ps = c .parameters
-
   kind-ok : isKind (c .first) (c .second) (c .parameters) ≡ true
   unfolding isCommand
   kind-ok = and-left (isKind (c .first) (c .second) (c .parameters)) _ ok
@@ -273,9 +270,6 @@ module _ (kept : Remembered) (c : Command) (es : List ℤ) (ok : isCommand kept 
       let g = found in
       let z : _≡_ {A = ℕ} 0 1 = cc in zero-one z
 
-  head : List ℕ
-  head = 27 ∷ c .first ∷ c .second ∷ []
-
   letters : Stands s start (27 ∷ c .first ∷ c .second ∷ [])
   unfolding spellCommand
   letters = stands-left s start (27 ∷ c .first ∷ c .second ∷ []) (spellParameters kept (valuesOf (c .parameters)) (tailOf (c .parameters)) es) st
@@ -291,3 +285,75 @@ module _ (kept : Remembered) (c : Command) (es : List ℤ) (ok : isCommand kept 
       let a = letter-is s (start + 1) (c .first) (omega (arith, letters .room)) (letters .same 1 (omega arith)) first-plain in
       let b = letter-is s (start + 2) (c .second) (omega (arith, letters .room)) (letters .same 2 (omega arith)) second-plain in
       rw (a, begun, z, b, found)
+
+  -- the three tests behind that of the letters
+  tested : inside (kept .point) && (areValues (valuesOf (c .parameters)) && isTail (tailOf (c .parameters)) es) ≡ true
+  unfolding isCommand
+  tested = and-right (isKind (c .first) (c .second) (c .parameters)) _ ok
+
+  last-inside : inside (kept .point) ≡ true
+  last-inside = and-left (inside (kept .point)) _ tested
+
+  values-ok : areValues (valuesOf (c .parameters)) ≡ true
+  values-ok = and-left (areValues (valuesOf (c .parameters))) _ (and-right (inside (kept .point)) _ tested)
+
+  tail-ok : isTail (tailOf (c .parameters)) es ≡ true
+  tail-ok = and-right (areValues (valuesOf (c .parameters))) _ (and-right (inside (kept .point)) _ tested)
+
+  abbrev vs : List Value
+  vs = valuesOf (c .parameters)
+
+  abbrev spelledValues : List ℕ
+  spelledValues = spellValues kept (valuesOf (c .parameters))
+
+  abbrev spelledTail : List ℕ
+  spelledTail = spellTail (afterValues kept (valuesOf (c .parameters))) (tailOf (c .parameters)) es
+
+  fixed-back : fixedAt kept (map partOf vs) s (start + 3) ≡ done (record { values = vs; next = start + 3 + length spelledValues; kept = afterValues kept vs })
+  unfolding spellParameters
+  fixed-back = values-back s kept vs (start + 3) last-inside values-ok (stands-left s (start + 3) spelledValues spelledTail rest)
+
+  list-back : TailBack s (afterValues kept vs) (tailOf (c .parameters)) es (start + 3 + length spelledValues)
+  unfolding spellParameters
+  list-back = tail-back s (afterValues kept vs) (tailOf (c .parameters)) es (start + 3 + length spelledValues) tail-ok (stands-right s (start + 3) spelledValues spelledTail rest)
+
+  parsed : Parsed
+  parsed = record {
+    values = vs;
+    tail = tailOf (c .parameters);
+    start = list-back .held .start;
+    count = list-back .held .count;
+    next = list-back .held .next;
+    kept = afterValues kept vs;
+  }
+
+  parameters-back : parametersAt kept (shapeOf (kindFor (c .parameters))) s (start + 3) ≡ done parsed
+  unfolding parametersAt parsed
+  parameters-back = rw (shape-is (c .parameters), fixed-back, list-back .reads)
+
+  long : length (spellCommand kept c es) ≡ 3 + (length spelledValues + length spelledTail)
+  unfolding spellCommand spellParameters
+  long = let a = length-append spelledValues spelledTail in omega arith
+
+  -- in room enough for its entries the command reads back
+  pub command-back : (room : ℕ) → length (listed (tailOf (c .parameters)) es) ≤ room → Back kept c es s start room
+  unfolding commandAt bodyAt parsed
+  command-back room h =
+      let t : leb (list-back .held .count) room ≡ true = le-leb (list-back .held .count) room (omega (arith, list-back .number-is)) in
+      record {
+        read = meaning (c .first) (c .second) s parsed;
+        whole = rw (lt-ltb start (length s) (omega (arith, letters .room)), head-back, parameters-back, t);
+        first-is = refl;
+        second-is = refl;
+        values-are = refl;
+        tail-is = refl;
+        entries-are = list-back .entries-are;
+        next-is = omega (arith, list-back .next-is, long);
+        kept-is = refl;
+      }
+
+-- every writable command with its entries, written from a remembered point and read again from that point, also behind and in front of
+-- other bytes
+pub command-round : (kept : Remembered) (c : Command) (es : List ℤ) (before after : List ℕ) (room : ℕ) → isCommand kept c es ≡ true → length (listed (tailOf (c .parameters)) es) ≤ room → Back kept c es (before ++ (spellCommand kept c es ++ after)) (length before) room
+command-round kept c es before after room ok h =
+    command-back kept c es ok (before ++ (spellCommand kept c es ++ after)) (length before) (stands-between before (spellCommand kept c es) after) room h
