@@ -3,3 +3,4 @@ pub mod Fitting
 pub mod Pouring
 pub mod Lists
 pub mod RoundTrip
+pub mod Shortest

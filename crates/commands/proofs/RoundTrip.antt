@@ -85,7 +85,7 @@ entries-back e kept s (v ∷ vs) at ok st =
 
 -- ---- the fixed values
 
-abbrev partOf : Value → Part
+abbrev pub partOf : Value → Part
 partOf (number e v) = single e
 partOf (scaled m x) = real
 partOf (place p) = point
