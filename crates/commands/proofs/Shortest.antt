@@ -6,8 +6,8 @@ use mathlib.Core.Bool.{Bool, true, false, _&&_}
 use mathlib.Core.List.{List, [], _∷_, _++_, map, append-nil, append-assoc}
 use native.Mathlib.Omega.{arith}
 use borrow.Author.Tests.{le-leb, leb-true, ltb-true}
-use lib.Dec.{leb, ltb}
-use lib.ListN.{length, length-append}
+use lib.Dec.{leb, ltb, eqb}
+use lib.ListN.{length, getD, length-append}
 use lib.IntN.{ℤ, pos, natAbs}
 use Rattle.memory.specs.declared.Point.{Point}
 use Rattle.memory.specs.declared.Remembered.{Remembered}
@@ -23,12 +23,16 @@ use Rattle.numbers.proofs.Shortest.{integer-shown, count-shown}
 use Rattle.points.specs.Reading.{pointAt}
 use Rattle.points.specs.Writing.{spellPoint}
 use Rattle.points.proofs.Shortest.{point-shown}
+use Rattle.table.specs.declared.Kind.{Kind}
+use Rattle.table.specs.declared.Found.{Found}
+use Rattle.table.specs.declared.Found.the-variants.{Is, NoKind}
+use Rattle.table.specs.Table.{kindOf, begins}
 use Rattle.parameters.specs.declared.Entry.{Entry}
 use Rattle.parameters.specs.declared.Entry.the-variants.{AnInteger, ACharacter}
 use Rattle.parameters.specs.Entries.{entryAt, asEntry, entriesFrom, Held, runAt}
 use Rattle.parameters.specs.Shapes.{Part, single, real, point, Tail, none, counted, Shape, Value, number, scaled, place, shapeOf}
 use Rattle.parameters.specs.Looking.{Pair, pairAt, Fixed, partAt, fixedAt, tailAt, Parsed, parametersAt}
-use Rattle.commands.specs.Reading.{entryIn, entriesOf, Meaning, bodyAt, commandAt}
+use Rattle.commands.specs.Reading.{letterAt, Letters, completed, secondAt, headAt, entryIn, entriesOf, Meaning, meaning, bodyAt, commandAt}
 use Rattle.commands.specs.Writing.{isEntry, areEntries, isValue, areValues, isTail, spellEntry, spellEntries, spellValue, afterValue, spellValues, afterValues, spellTail, spellParameters}
 use Rattle.commands.proofs.RoundTrip.{partOf}
 
@@ -205,3 +209,122 @@ fixed-good kept (p ∷ ps) s at h =
         (λ g r. is-done (FixedShown kept (p ∷ ps) s at) (behind kept p ps s at f g a (done-of (FixedShown (f .kept) ps s (f .next)) (fixed-good (f .kept) ps s (f .next) (a .within)) r)))
         (λ x y r. not-done (FixedShown kept (p ∷ ps) s at) x y))
     (λ x y q. not-done (FixedShown kept (p ∷ ps) s at) x y)
+
+-- ---- the list behind them
+
+abbrev entriesHeld : Remembered → Tail → List ℕ → Held → List ℤ
+entriesHeld kept t s h = entriesFrom (entryIn t) kept (h .count) s (h .start)
+
+pub record TailShown (kept : Remembered) (t : Tail) (s : List ℕ) (at : ℕ) (h : Held) : Type 0 where
+  pub writable : isTail t (entriesHeld kept t s h) ≡ true
+  pub number-is : length (entriesHeld kept t s h) ≡ h .count
+  pub shortest : at + length (spellTail kept t (entriesHeld kept t s h)) ≤ h .next
+  pub forward : at ≤ h .next
+  pub within : h .next ≤ length s
+
+tail-good : (kept : Remembered) (t : Tail) (s : List ℕ) (at : ℕ) → at ≤ length s → Done (TailShown kept t s at) (tailAt kept t s at)
+unfolding tailAt runAt isTail spellTail allAfter
+tail-good kept none s at h =
+    is-done (TailShown kept none s at) (record { writable = refl; number-is = refl; shortest = omega arith; forward = omega arith; within = h })
+tail-good kept (counted e) s at h =
+    by-then (Done (TailShown kept (counted e) s at)) (countAt kept s at) _
+    (λ c g.
+        let f = count-shown kept s at g in
+        by-then (Done (TailShown kept (counted e) s at)) (endsAfter (entryAt e kept s) (c .value) (c .next)) _
+        (λ n q.
+            let r = done-of (RunShown e kept s (c .value) (c .next)) (run-good e kept s (c .value) (c .next) (f .within)) q in
+            let es = allAfter (entryAt e kept s) (c .value) (c .next) in
+            let w = sent kept (spell (pos (c .value))) in
+            is-done (TailShown kept (counted e) s at) (record {
+              writable = rw (r .number-is, le-leb (c .value) 256 (f .writable)) (r .writable);
+              number-is = r .number-is;
+              shortest = rw (r .number-is) (omega (arith, f .shortest, r .shortest, length-append w (spellEntries e kept es)));
+              forward = omega (arith, f .shortest, r .shortest);
+              within = r .within;
+            }))
+        (λ x p q. not-done (TailShown kept (counted e) s at) x p))
+    (λ x p g. not-done (TailShown kept (counted e) s at) x p)
+
+-- ---- the letters
+
+record HeadShown (s : List ℕ) (at : ℕ) (h : Letters) : Type 0 where
+  known : kindOf (h .first) (h .second) ≡ Is (h .kind)
+  room : at + 2 ≤ length s
+
+letter-good : (s : List ℕ) (at : ℕ) → Done (λ (b : ℕ). at < length s) (letterAt s at)
+unfolding letterAt
+letter-good s at =
+    by-pick (Done (λ (b : ℕ). at < length s)) (ltb at (length s)) _ _
+    (λ t. by-pick (Done (λ (b : ℕ). at < length s)) (eqb (getD s at 0) 27) _ _
+    (λ u. not-done (λ (b : ℕ). at < length s) 6 at)
+    (λ u. is-done (λ (b : ℕ). at < length s) (ltb-true at (length s) t)))
+    (λ t. not-done (λ (b : ℕ). at < length s) 1 (length s))
+
+completed-good : (s : List ℕ) (at a b p : ℕ) (f : Found) → kindOf a b ≡ f → at + 2 ≤ length s → Done (HeadShown s at) (completed a b p f)
+completed-good s at a b p (Is k) e h = is-done (HeadShown s at) (record { known = e; room = h })
+completed-good s at a b p NoKind e h = not-done (HeadShown s at) 2 p
+
+head-good : (s : List ℕ) (at : ℕ) → Done (HeadShown s at) (headAt s at)
+unfolding headAt secondAt
+head-good s at =
+    by-then (Done (HeadShown s at)) (letterAt s at) _
+    (λ a g. by-pick (Done (HeadShown s at)) (begins a) _ _
+    (λ t. by-then (Done (HeadShown s at)) (letterAt s (at + 1)) _
+    (λ b h. let i = done-of (λ (c : ℕ). at + 1 < length s) (letter-good s (at + 1)) h in
+    completed-good s at a b (at + 1) (kindOf a b) refl (omega arith))
+    (λ x p h. not-done (HeadShown s at) x p))
+    (λ t. not-done (HeadShown s at) 2 at))
+    (λ x p g. not-done (HeadShown s at) x p)
+
+-- ---- the whole command
+
+pub record Shown (kept : Remembered) (s : List ℕ) (start : ℕ) (m : Meaning) : Type 0 where
+  pub kind : Kind
+  pub known : kindOf (m .first) (m .second) ≡ Is kind
+  pub shape-is : shapeOf kind ≡ record { fixed = map partOf (m .values); tail = m .tail }
+  pub values-ok : areValues (m .values) ≡ true
+  pub tail-ok : isTail (m .tail) (m .entries) ≡ true
+  pub count-is : m .count ≡ length (m .entries)
+  pub shortest : start + (3 + length (spellParameters kept (m .values) (m .tail) (m .entries))) ≤ m .next
+  pub kept-is : m .kept ≡ afterValues kept (m .values)
+  pub forward : start < m .next
+  pub within : m .next ≤ length s
+
+module _ (kept : Remembered) (k : Kind) (s : List ℕ) (start : ℕ) (room : start + 3 ≤ length s) where
+  record ParsedShown (p : Parsed) : Type 0 where
+    shape-ok : shapeOf k ≡ record { fixed = map partOf (p .values); tail = p .tail }
+    values-good : areValues (p .values) ≡ true
+    tail-is-good : isTail (p .tail) (entriesOf s p) ≡ true
+    count-good : p .count ≡ length (entriesOf s p)
+    short : start + (3 + length (spellParameters kept (p .values) (p .tail) (entriesOf s p))) ≤ p .next
+    kept-good : p .kept ≡ afterValues kept (p .values)
+    on : start < p .next
+    inside-of : p .next ≤ length s
+
+  joined : (f : Fixed) (h : Held) → FixedShown kept (shapeOf k .fixed) s (start + 3) f → TailShown (f .kept) (shapeOf k .tail) s (f .next) h → ParsedShown (record { values = f .values; tail = shapeOf k .tail; start = h .start; count = h .count; next = h .next; kept = f .kept })
+  unfolding spellParameters
+  joined f h a b =
+      let w = spellValues kept (f .values) in
+      let t = spellTail (afterValues kept (f .values)) (shapeOf k .tail) (entriesHeld (f .kept) (shapeOf k .tail) s h) in
+      let e : spellTail (f .kept) (shapeOf k .tail) (entriesHeld (f .kept) (shapeOf k .tail) s h) ≡ t = ap (λ (m : Remembered). spellTail m (shapeOf k .tail) (entriesHeld (f .kept) (shapeOf k .tail) s h)) (a .kept-is) in
+      record {
+        shape-ok = ap (λ (ps : List Part). record { fixed = ps; tail = shapeOf k .tail }) (sym (a .parts-are));
+        values-good = a .writable;
+        tail-is-good = b .writable;
+        count-good = sym (b .number-is);
+        short = omega (arith, a .shortest, b .shortest, ap length e, length-append w t);
+        kept-good = a .kept-is;
+        on = omega (arith, a .forward, b .forward);
+        inside-of = b .within;
+      }
+
+  parsed-good : Done ParsedShown (parametersAt kept (shapeOf k) s (start + 3))
+  unfolding parametersAt
+  parsed-good =
+      by-then (Done ParsedShown) (fixedAt kept (shapeOf k .fixed) s (start + 3)) _
+      (λ f g.
+          let a = done-of (FixedShown kept (shapeOf k .fixed) s (start + 3)) (fixed-good kept (shapeOf k .fixed) s (start + 3) room) g in
+          by-then (Done ParsedShown) (tailAt (f .kept) (shapeOf k .tail) s (f .next)) _
+          (λ h q. is-done ParsedShown (joined f h a (done-of (TailShown (f .kept) (shapeOf k .tail) s (f .next)) (tail-good (f .kept) (shapeOf k .tail) s (f .next) (a .within)) q)))
+          (λ x p q. not-done ParsedShown x p))
+      (λ x p g. not-done ParsedShown x p)
