@@ -1,18 +1,18 @@
 -- Nothing shorter reads as the same command from the same remembered point, what is read may be written, and reading goes forward and stays
 -- within. Said over the kinds of parameter.
-use Prim.Native.Nat.{ℕ, zero, suc, _+_, _≤_, _<_}
+use Prim.Native.Nat.{ℕ, zero, suc, _+_, _*_, _≤_, _<_}
 use mathlib.Core.Path.{_≡_, refl, sym, _∙_, ap}
 use mathlib.Core.Bool.{Bool, true, false, _&&_}
 use mathlib.Core.List.{List, [], _∷_, _++_, map, append-nil, append-assoc}
 use native.Mathlib.Omega.{arith}
-use borrow.Author.Tests.{le-leb, leb-true, ltb-true}
+use borrow.Author.Tests.{le-leb, ltb-true, eq-eqb}
 use lib.Dec.{leb, ltb, eqb}
 use lib.ListN.{length, getD, length-append}
 use lib.IntN.{ℤ, pos, natAbs}
 use Rattle.memory.specs.declared.Point.{Point}
 use Rattle.memory.specs.declared.Remembered.{Remembered}
 use Rattle.memory.specs.Memory.{inside, remember}
-use Rattle.refusals.specs.Answers.{Answer, done, refused, Read, then, endsAfter, allAfter, every}
+use Rattle.refusals.specs.Answers.{Answer, done, refused, Read, then, pick, endsAfter, allAfter, every}
 use Rattle.refusals.proofs.Cases.{by-pick, by-then, Done, done-of, done-map, is-done, not-done, and-left, and-right}
 use Rattle.wire.specs.Taking.{byteAt}
 use Rattle.wire.specs.Sending.{sent}
@@ -24,17 +24,19 @@ use Rattle.points.specs.Reading.{pointAt}
 use Rattle.points.specs.Writing.{spellPoint}
 use Rattle.points.proofs.Shortest.{point-shown}
 use Rattle.table.specs.declared.Kind.{Kind}
+use Rattle.table.specs.declared.Kind.the-variants as K
 use Rattle.table.specs.declared.Found.{Found}
 use Rattle.table.specs.declared.Found.the-variants.{Is, NoKind}
 use Rattle.table.specs.Table.{kindOf, begins}
 use Rattle.parameters.specs.declared.Entry.{Entry}
 use Rattle.parameters.specs.declared.Entry.the-variants.{AnInteger, ACharacter}
 use Rattle.parameters.specs.Entries.{entryAt, asEntry, entriesFrom, Held, runAt}
-use Rattle.parameters.specs.Shapes.{Part, single, real, point, Tail, none, counted, Shape, Value, number, scaled, place, shapeOf}
+use Rattle.parameters.specs.Shapes.{Part, single, real, point, Tail, none, counted, Shape, Value, number, scaled, place, shapeOf, valuesOf, tailOf}
 use Rattle.parameters.specs.Looking.{Pair, pairAt, Fixed, partAt, fixedAt, tailAt, Parsed, parametersAt}
+use Rattle.commands.specs.declared.Command.{Command}
 use Rattle.commands.specs.Reading.{letterAt, Letters, completed, secondAt, headAt, entryIn, entriesOf, Meaning, meaning, bodyAt, commandAt}
-use Rattle.commands.specs.Writing.{isEntry, areEntries, isValue, areValues, isTail, spellEntry, spellEntries, spellValue, afterValue, spellValues, afterValues, spellTail, spellParameters}
-use Rattle.commands.proofs.RoundTrip.{partOf}
+use Rattle.commands.specs.Writing.{kindFor, kindNumber, isKind, isEntry, areEntries, isValue, areValues, isTail, isCommand, spellEntry, spellEntries, spellValue, afterValue, spellValues, afterValues, spellTail, spellParameters, spellCommand}
+use Rattle.commands.proofs.RoundTrip.{partOf, shape-is}
 
 -- ---- one entry
 
@@ -328,3 +330,113 @@ module _ (kept : Remembered) (k : Kind) (s : List ℕ) (start : ℕ) (room : sta
           (λ h q. is-done ParsedShown (joined f h a (done-of (TailShown (f .kept) (shapeOf k .tail) s (f .next)) (tail-good (f .kept) (shapeOf k .tail) s (f .next) (a .within)) q)))
           (λ x p q. not-done ParsedShown x p))
       (λ x p g. not-done ParsedShown x p)
+
+command-good : (kept : Remembered) (s : List ℕ) (start room : ℕ) → Done (Shown kept s start) (commandAt kept s start room)
+unfolding commandAt bodyAt
+command-good kept s start room =
+    by-pick (Done (Shown kept s start)) (ltb start (length s)) _ _
+    (λ t. by-then (Done (Shown kept s start)) (headAt s (start + 1)) _
+    (λ h g.
+        let a = done-of (HeadShown s (start + 1)) (head-good s (start + 1)) g in
+        let r : start + 3 ≤ length s = omega (arith, a .room) in
+        by-then (Done (Shown kept s start)) (parametersAt kept (shapeOf (h .kind)) s (start + 3)) _
+        (λ p q.
+            let b = done-of (ParsedShown kept (h .kind) s start r) (parsed-good kept (h .kind) s start r) q in
+            by-pick (Done (Shown kept s start)) (leb (p .count) room) _ _
+            (λ u. is-done (Shown kept s start) (record {
+              kind = h .kind;
+              known = a .known;
+              shape-is = b .shape-ok;
+              values-ok = b .values-good;
+              tail-ok = b .tail-is-good;
+              count-is = b .count-good;
+              shortest = b .short;
+              kept-is = b .kept-good;
+              forward = b .on;
+              within = b .inside-of;
+            }))
+            (λ u. not-done (Shown kept s start) 7 start))
+        (λ x p q. not-done (Shown kept s start) x p))
+    (λ x p g. not-done (Shown kept s start) x p))
+    (λ t. not-done (Shown kept s start) 1 (length s))
+
+pub command-shown : (kept : Remembered) (s : List ℕ) (start room : ℕ) {m : Meaning} → commandAt kept s start room ≡ done m → Shown kept s start m
+command-shown kept s start room e = done-of (Shown kept s start) (command-good kept s start room) e
+
+-- ---- what reading yields is writable
+
+partCode : Part → ℕ
+partCode (single AnInteger) = 1
+partCode (single ACharacter) = 2
+partCode real = 3
+partCode point = 4
+
+codes : List Part → ℕ
+codes [] = 0
+codes (p ∷ ps) = partCode p + 5 * codes ps
+
+tailCode : Tail → ℕ
+tailCode none = 0
+tailCode (counted AnInteger) = 1
+tailCode (counted ACharacter) = 2
+
+-- a number for each shape, by which kinds of different shapes are told apart
+shapeCode : Shape → ℕ
+shapeCode h = codes (h .fixed) * 3 + tailCode (h .tail)
+
+kindCoded : ℕ → Kind
+kindCoded n =
+    pick (eqb n 3) K.AnInteger
+    (pick (eqb n 18) K.TwoIntegers
+    (pick (eqb n 93) K.ThreeIntegers
+    (pick (eqb n 12) K.APoint
+    (pick (eqb n 72) K.TwoPoints
+    (pick (eqb n 9) K.AReal
+    (pick (eqb n 2) K.AString
+    (pick (eqb n 1) K.AnArray
+    (pick (eqb n 4) K.IntegerThenArray
+    (pick (eqb n 5) K.IntegerThenString
+    K.TwoCharacters)))))))))
+
+coded : (k : Kind) → kindCoded (shapeCode (shapeOf k)) ≡ k
+unfolding kindCoded shapeCode codes tailCode partCode
+coded K.AnInteger = refl
+coded K.TwoIntegers = refl
+coded K.ThreeIntegers = refl
+coded K.APoint = refl
+coded K.TwoPoints = refl
+coded K.AReal = refl
+coded K.AString = refl
+coded K.AnArray = refl
+coded K.IntegerThenArray = refl
+coded K.IntegerThenString = refl
+coded K.TwoCharacters = refl
+
+same-shape : (k j : Kind) → shapeOf k ≡ shapeOf j → k ≡ j
+same-shape k j e = sym (coded k) ∙ ap (λ (h : Shape). kindCoded (shapeCode h)) e ∙ coded j
+
+-- a command that says what was read
+pub record SaysSo (c : Command) (m : Meaning) : Type 0 where
+  pub first-is : c .first ≡ m .first
+  pub second-is : c .second ≡ m .second
+  pub values-are : valuesOf (c .parameters) ≡ m .values
+  pub tail-is : tailOf (c .parameters) ≡ m .tail
+
+pub read-writable : (kept : Remembered) (s : List ℕ) (start room : ℕ) (c : Command) {m : Meaning} → inside (kept .point) ≡ true → commandAt kept s start room ≡ done m → SaysSo c m → isCommand kept c (m .entries) ≡ true
+unfolding isCommand isKind
+read-writable kept s start room c {m} i e q =
+    let f = command-shown kept s start room e in
+    let ps = c .parameters in
+    let y : _≡_ {A = Shape} (record { fixed = map partOf (valuesOf ps); tail = tailOf ps }) (record { fixed = map partOf (m .values); tail = m .tail }) = rw (q .values-are, q .tail-is) in
+    let z : shapeOf (kindFor ps) ≡ shapeOf (f .kind) = shape-is ps ∙ y ∙ sym (f .shape-is) in
+    let k : kindFor ps ≡ f .kind = same-shape (kindFor ps) (f .kind) z in
+    let n : kindOf (c .first) (c .second) ≡ Is (kindFor ps) = rw (q .first-is, q .second-is) (f .known ∙ ap Is (sym k)) in
+    rw (n, eq-eqb (kindNumber (kindFor ps)) (kindNumber (kindFor ps)) refl, i, q .values-are, q .tail-is, f .values-ok) (f .tail-ok)
+
+-- no byte string that reads as that command from that point is shorter
+pub command-shortest : (kept : Remembered) (s : List ℕ) (start room : ℕ) (c : Command) {m : Meaning} → commandAt kept s start room ≡ done m → SaysSo c m → start + length (spellCommand kept c (m .entries)) ≤ m .next
+unfolding spellCommand
+command-shortest kept s start room c {m} e q =
+    let f = command-shown kept s start room e in
+    let n : length (spellParameters kept (valuesOf (c .parameters)) (tailOf (c .parameters)) (m .entries)) ≡ length (spellParameters kept (m .values) (m .tail) (m .entries)) = rw (q .values-are, q .tail-is) in
+    omega (arith, f .shortest, n)
