@@ -4,3 +4,4 @@ pub mod Pouring
 pub mod Lists
 pub mod RoundTrip
 pub mod Shortest
+pub mod Places

@@ -58,13 +58,13 @@ entry-good ACharacter kept s at r g =
     done-of (EntryShown ACharacter kept s at)
     (by-then (Done (EntryShown ACharacter kept s at)) (byteAt kept s at) asEntry
     (λ b h.
-        let t = took kept s at h in
-        is-done (EntryShown ACharacter kept s at) (record {
-          writable = character (b .value) (t .least) (t .most);
-          shortest = took-least kept s at h;
-          forward = t .forward;
-          within = t .within;
-        }))
+    let t = took kept s at h in
+    is-done (EntryShown ACharacter kept s at) (record {
+      writable = character (b .value) (t .least) (t .most);
+      shortest = took-least kept s at h;
+      forward = t .forward;
+      within = t .within;
+    }))
     (λ x p h. not-done (EntryShown ACharacter kept s at) x p))
     g
 
@@ -83,15 +83,15 @@ run-good e kept s zero at h =
 run-good e kept s (suc k) at h =
     by-then (Done (RunShown e kept s (suc k) at)) (entryAt e kept s at) _
     (λ r g.
-        let f = entry-good e kept s at r g in
-        let w = spellEntry e kept (r .value) in
-        let rest = spellEntries e kept (allAfter (entryAt e kept s) k (r .next)) in
-        done-map (λ n q. record {
-          writable = rw (g, f .writable) (q .writable);
-          number-is = rw g (ap suc (q .number-is));
-          shortest = rw g (omega (arith, f .shortest, q .shortest, length-append w rest));
-          within = q .within;
-        }) (endsAfter (entryAt e kept s) k (r .next)) (run-good e kept s k (r .next) (f .within)))
+    let f = entry-good e kept s at r g in
+    let w = spellEntry e kept (r .value) in
+    let rest = spellEntries e kept (allAfter (entryAt e kept s) k (r .next)) in
+    done-map (λ n q. record {
+      writable = rw (g, f .writable) (q .writable);
+      number-is = rw g (ap suc (q .number-is));
+      shortest = rw g (omega (arith, f .shortest, q .shortest, length-append w rest));
+      within = q .within;
+    }) (endsAfter (entryAt e kept s) k (r .next)) (run-good e kept s k (r .next) (f .within)))
     (λ x p g. not-done (RunShown e kept s (suc k) at) x p)
 
 -- ---- the fixed values
@@ -131,13 +131,13 @@ pair-good kept s at =
     by-then (Done (PairShown kept s at)) (entryAt AnInteger kept s at) _
     (λ a g. by-then (Done (PairShown kept s at)) (entryAt AnInteger kept s (a .next)) _
     (λ b h.
-        let f = entry-good AnInteger kept s at a g in
-        let q = entry-good AnInteger kept s (a .next) b h in
-        is-done (PairShown kept s at) (record {
-          ok = rw (f .writable, q .writable);
-          short = omega (arith, f .shortest, q .shortest, length-append (sent kept (spell (a .value))) (sent kept (spell (b .value))));
-          inside-of = q .within;
-        }))
+    let f = entry-good AnInteger kept s at a g in
+    let q = entry-good AnInteger kept s (a .next) b h in
+    is-done (PairShown kept s at) (record {
+      ok = rw (f .writable, q .writable);
+      short = omega (arith, f .shortest, q .shortest, length-append (sent kept (spell (a .value))) (sent kept (spell (b .value))));
+      inside-of = q .within;
+    }))
     (λ x p h. not-done (PairShown kept s at) x p))
     (λ x p g. not-done (PairShown kept s at) x p)
 
@@ -146,20 +146,20 @@ unfolding partAt
 part-good kept (single e) s at =
     by-then (Done (FixedShown kept (single e ∷ []) s at)) (entryAt e kept s at) _
     (λ r g.
-        let f = entry-good e kept s at r g in
-        is-done (FixedShown kept (single e ∷ []) s at) (alone kept (number e (r .value)) s at (r .next) (f .writable) (f .shortest) (f .within)))
+    let f = entry-good e kept s at r g in
+    is-done (FixedShown kept (single e ∷ []) s at) (alone kept (number e (r .value)) s at (r .next) (f .writable) (f .shortest) (f .within)))
     (λ x q g. not-done (FixedShown kept (single e ∷ []) s at) x q)
 part-good kept real s at =
     by-then (Done (FixedShown kept (real ∷ []) s at)) (pairAt AnInteger kept s at) _
     (λ r g.
-        let f = done-of (PairShown kept s at) (pair-good kept s at) g in
-        is-done (FixedShown kept (real ∷ []) s at) (alone kept (scaled (r .one) (r .two)) s at (r .next) (f .ok) (f .short) (f .inside-of)))
+    let f = done-of (PairShown kept s at) (pair-good kept s at) g in
+    is-done (FixedShown kept (real ∷ []) s at) (alone kept (scaled (r .one) (r .two)) s at (r .next) (f .ok) (f .short) (f .inside-of)))
     (λ x q g. not-done (FixedShown kept (real ∷ []) s at) x q)
 part-good kept point s at =
     by-then (Done (FixedShown kept (point ∷ []) s at)) (pointAt kept s at) _
     (λ r g.
-        let f = point-shown kept s at g in
-        is-done (FixedShown kept (point ∷ []) s at) (alone kept (place (r .value)) s at (r .next) (f .writable) (f .shortest) (f .within)))
+    let f = point-shown kept s at g in
+    is-done (FixedShown kept (point ∷ []) s at) (alone kept (place (r .value)) s at (r .next) (f .writable) (f .shortest) (f .within)))
     (λ x q g. not-done (FixedShown kept (point ∷ []) s at) x q)
 
 -- values behind values
@@ -206,10 +206,10 @@ fixed-good kept [] s at h =
 fixed-good kept (p ∷ ps) s at h =
     by-then (Done (FixedShown kept (p ∷ ps) s at)) (partAt kept p s at) _
     (λ f q.
-        let a = done-of (FixedShown kept (p ∷ []) s at) (part-good kept p s at) q in
-        by-then (Done (FixedShown kept (p ∷ ps) s at)) (fixedAt (f .kept) ps s (f .next)) _
-        (λ g r. is-done (FixedShown kept (p ∷ ps) s at) (behind kept p ps s at f g a (done-of (FixedShown (f .kept) ps s (f .next)) (fixed-good (f .kept) ps s (f .next) (a .within)) r)))
-        (λ x y r. not-done (FixedShown kept (p ∷ ps) s at) x y))
+    let a = done-of (FixedShown kept (p ∷ []) s at) (part-good kept p s at) q in
+    by-then (Done (FixedShown kept (p ∷ ps) s at)) (fixedAt (f .kept) ps s (f .next)) _
+    (λ g r. is-done (FixedShown kept (p ∷ ps) s at) (behind kept p ps s at f g a (done-of (FixedShown (f .kept) ps s (f .next)) (fixed-good (f .kept) ps s (f .next) (a .within)) r)))
+    (λ x y r. not-done (FixedShown kept (p ∷ ps) s at) x y))
     (λ x y q. not-done (FixedShown kept (p ∷ ps) s at) x y)
 
 -- ---- the list behind them
@@ -231,20 +231,20 @@ tail-good kept none s at h =
 tail-good kept (counted e) s at h =
     by-then (Done (TailShown kept (counted e) s at)) (countAt kept s at) _
     (λ c g.
-        let f = count-shown kept s at g in
-        by-then (Done (TailShown kept (counted e) s at)) (endsAfter (entryAt e kept s) (c .value) (c .next)) _
-        (λ n q.
-            let r = done-of (RunShown e kept s (c .value) (c .next)) (run-good e kept s (c .value) (c .next) (f .within)) q in
-            let es = allAfter (entryAt e kept s) (c .value) (c .next) in
-            let w = sent kept (spell (pos (c .value))) in
-            is-done (TailShown kept (counted e) s at) (record {
-              writable = rw (r .number-is, le-leb (c .value) 256 (f .writable)) (r .writable);
-              number-is = r .number-is;
-              shortest = rw (r .number-is) (omega (arith, f .shortest, r .shortest, length-append w (spellEntries e kept es)));
-              forward = omega (arith, f .shortest, r .shortest);
-              within = r .within;
-            }))
-        (λ x p q. not-done (TailShown kept (counted e) s at) x p))
+    let f = count-shown kept s at g in
+    by-then (Done (TailShown kept (counted e) s at)) (endsAfter (entryAt e kept s) (c .value) (c .next)) _
+    (λ n q.
+    let r = done-of (RunShown e kept s (c .value) (c .next)) (run-good e kept s (c .value) (c .next) (f .within)) q in
+    let es = allAfter (entryAt e kept s) (c .value) (c .next) in
+    let w = sent kept (spell (pos (c .value))) in
+    is-done (TailShown kept (counted e) s at) (record {
+      writable = rw (r .number-is, le-leb (c .value) 256 (f .writable)) (r .writable);
+      number-is = r .number-is;
+      shortest = rw (r .number-is) (omega (arith, f .shortest, r .shortest, length-append w (spellEntries e kept es)));
+      forward = omega (arith, f .shortest, r .shortest);
+      within = r .within;
+    }))
+    (λ x p q. not-done (TailShown kept (counted e) s at) x p))
     (λ x p g. not-done (TailShown kept (counted e) s at) x p)
 
 -- ---- the letters
@@ -325,10 +325,10 @@ module _ (kept : Remembered) (k : Kind) (s : List ℕ) (start : ℕ) (room : sta
   parsed-good =
       by-then (Done ParsedShown) (fixedAt kept (shapeOf k .fixed) s (start + 3)) _
       (λ f g.
-          let a = done-of (FixedShown kept (shapeOf k .fixed) s (start + 3)) (fixed-good kept (shapeOf k .fixed) s (start + 3) room) g in
-          by-then (Done ParsedShown) (tailAt (f .kept) (shapeOf k .tail) s (f .next)) _
-          (λ h q. is-done ParsedShown (joined f h a (done-of (TailShown (f .kept) (shapeOf k .tail) s (f .next)) (tail-good (f .kept) (shapeOf k .tail) s (f .next) (a .within)) q)))
-          (λ x p q. not-done ParsedShown x p))
+      let a = done-of (FixedShown kept (shapeOf k .fixed) s (start + 3)) (fixed-good kept (shapeOf k .fixed) s (start + 3) room) g in
+      by-then (Done ParsedShown) (tailAt (f .kept) (shapeOf k .tail) s (f .next)) _
+      (λ h q. is-done ParsedShown (joined f h a (done-of (TailShown (f .kept) (shapeOf k .tail) s (f .next)) (tail-good (f .kept) (shapeOf k .tail) s (f .next) (a .within)) q)))
+      (λ x p q. not-done ParsedShown x p))
       (λ x p g. not-done ParsedShown x p)
 
 command-good : (kept : Remembered) (s : List ℕ) (start room : ℕ) → Done (Shown kept s start) (commandAt kept s start room)
@@ -337,26 +337,26 @@ command-good kept s start room =
     by-pick (Done (Shown kept s start)) (ltb start (length s)) _ _
     (λ t. by-then (Done (Shown kept s start)) (headAt s (start + 1)) _
     (λ h g.
-        let a = done-of (HeadShown s (start + 1)) (head-good s (start + 1)) g in
-        let r : start + 3 ≤ length s = omega (arith, a .room) in
-        by-then (Done (Shown kept s start)) (parametersAt kept (shapeOf (h .kind)) s (start + 3)) _
-        (λ p q.
-            let b = done-of (ParsedShown kept (h .kind) s start r) (parsed-good kept (h .kind) s start r) q in
-            by-pick (Done (Shown kept s start)) (leb (p .count) room) _ _
-            (λ u. is-done (Shown kept s start) (record {
-              kind = h .kind;
-              known = a .known;
-              shape-is = b .shape-ok;
-              values-ok = b .values-good;
-              tail-ok = b .tail-is-good;
-              count-is = b .count-good;
-              shortest = b .short;
-              kept-is = b .kept-good;
-              forward = b .on;
-              within = b .inside-of;
-            }))
-            (λ u. not-done (Shown kept s start) 7 start))
-        (λ x p q. not-done (Shown kept s start) x p))
+    let a = done-of (HeadShown s (start + 1)) (head-good s (start + 1)) g in
+    let r : start + 3 ≤ length s = omega (arith, a .room) in
+    by-then (Done (Shown kept s start)) (parametersAt kept (shapeOf (h .kind)) s (start + 3)) _
+    (λ p q.
+    let b = done-of (ParsedShown kept (h .kind) s start r) (parsed-good kept (h .kind) s start r) q in
+    by-pick (Done (Shown kept s start)) (leb (p .count) room) _ _
+    (λ u. is-done (Shown kept s start) (record {
+      kind = h .kind;
+      known = a .known;
+      shape-is = b .shape-ok;
+      values-ok = b .values-good;
+      tail-ok = b .tail-is-good;
+      count-is = b .count-good;
+      shortest = b .short;
+      kept-is = b .kept-good;
+      forward = b .on;
+      within = b .inside-of;
+    }))
+    (λ u. not-done (Shown kept s start) 7 start))
+    (λ x p q. not-done (Shown kept s start) x p))
     (λ x p g. not-done (Shown kept s start) x p))
     (λ t. not-done (Shown kept s start) 1 (length s))
 

@@ -1,6 +1,6 @@
 -- Going by the cases of a definition: what holds in each case holds of the whole. A law on what reading gives is proved by these,
 -- with no test taken apart by hand.
-use Prim.Native.Nat.{ℕ}
+use Prim.Native.Nat.{ℕ, _≤_}
 use mathlib.Core.Path.{_≡_, refl, sym, subst}
 use mathlib.Core.Bool.{Bool, true, false, _&&_}
 use native.Mathlib.Omega.{arith}
@@ -51,3 +51,32 @@ zero-one e = omega arith
 
 pub bool-apart : false ≡ true → ⊥
 bool-apart e = let z : _≡_ {A = ℕ} 0 1 = cc in omega arith
+
+-- ---- where an answer points: reading from at on goes on, or is refused, between at and the end of the bytes
+
+unfoldable pub Ranged : {A : Type 0} → (A → ℕ) → (at end : ℕ) → Answer A → Type 0
+Ranged next at end (done x) = (at ≤ next x) × (next x ≤ end)
+Ranged next at end (refused e p) = (at ≤ p) × (p ≤ end)
+
+pub ranged-done : {A : Type 0} (next : A → ℕ) (at end : ℕ) (x : A) → at ≤ next x → next x ≤ end → Ranged next at end (done x)
+unfolding Ranged
+ranged-done next at end x h g = (h, g)
+
+pub ranged-refused : {A : Type 0} (next : A → ℕ) (at end e p : ℕ) → at ≤ p → p ≤ end → Ranged next at end (refused e p)
+unfolding Ranged
+ranged-refused next at end e p h g = (h, g)
+
+farther : {A B : Type 0} (f : A → ℕ) (g : B → ℕ) (at end : ℕ) (x : A) (b : Answer B) → (at ≤ f x) × (f x ≤ end) → Ranged g (f x) end b → Ranged g at end b
+unfolding Ranged
+farther f g at end x (done y) h q = (omega (arith, h .0, q .0), q .1)
+farther f g at end x (refused e p) h q = (omega (arith, h .0, q .0), q .1)
+
+-- one reading behind another
+pub ranged-then : {A B : Type 0} (f : A → ℕ) (g : B → ℕ) (at end : ℕ) (a : Answer A) (k : A → Answer B) → Ranged f at end a → ((x : A) → f x ≤ end → Ranged g (f x) end (k x)) → Ranged g at end (then a k)
+unfolding Ranged
+ranged-then f g at end (done x) k h next = farther f g at end x (k x) h (next x (h .1))
+ranged-then f g at end (refused e p) k h next = h
+
+pub ranged-of : {A : Type 0} (next : A → ℕ) (at end : ℕ) {a : Answer A} {e p : ℕ} → Ranged next at end a → a ≡ refused e p → (at ≤ p) × (p ≤ end)
+unfolding Ranged
+ranged-of next at end h q = subst (Ranged next at end) q h
