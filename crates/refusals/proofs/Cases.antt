@@ -66,17 +66,22 @@ pub ranged-refused : {A : Type 0} (next : A → ℕ) (at end e p : ℕ) → at �
 unfolding Ranged
 ranged-refused next at end e p h g = (h, g)
 
-farther : {A B : Type 0} (f : A → ℕ) (g : B → ℕ) (at end : ℕ) (x : A) (b : Answer B) → (at ≤ f x) × (f x ≤ end) → Ranged g (f x) end b → Ranged g at end b
+-- what is behind a later place is behind an earlier one
+pub farther : {A : Type 0} (next : A → ℕ) (at later end : ℕ) (a : Answer A) → at ≤ later → Ranged next later end a → Ranged next at end a
 unfolding Ranged
-farther f g at end x (done y) h q = (omega (arith, h .0, q .0), q .1)
-farther f g at end x (refused e p) h q = (omega (arith, h .0, q .0), q .1)
+farther next at later end (done x) h q = (omega (arith, h, q .0), q .1)
+farther next at later end (refused e p) h q = (omega (arith, h, q .0), q .1)
 
 -- one reading behind another
-pub ranged-then : {A B : Type 0} (f : A → ℕ) (g : B → ℕ) (at end : ℕ) (a : Answer A) (k : A → Answer B) → Ranged f at end a → ((x : A) → f x ≤ end → Ranged g (f x) end (k x)) → Ranged g at end (then a k)
+pub ranged-then : {A B : Type 0} (f : A → ℕ) (g : B → ℕ) (at end : ℕ) (a : Answer A) (k : A → Answer B) → Ranged f at end a → ((x : A) → a ≡ done x → at ≤ f x → f x ≤ end → Ranged g at end (k x)) → Ranged g at end (then a k)
 unfolding Ranged
-ranged-then f g at end (done x) k h next = farther f g at end x (k x) h (next x (h .1))
+ranged-then f g at end (done x) k h next = next x refl (h .0) (h .1)
 ranged-then f g at end (refused e p) k h next = h
 
 pub ranged-of : {A : Type 0} (next : A → ℕ) (at end : ℕ) {a : Answer A} {e p : ℕ} → Ranged next at end a → a ≡ refused e p → (at ≤ p) × (p ≤ end)
 unfolding Ranged
 ranged-of next at end h q = subst (Ranged next at end) q h
+
+pub ranged-to : {A : Type 0} (next : A → ℕ) (at end : ℕ) {a : Answer A} {x : A} → Ranged next at end a → a ≡ done x → (at ≤ next x) × (next x ≤ end)
+unfolding Ranged
+ranged-to next at end h q = subst (Ranged next at end) q h
