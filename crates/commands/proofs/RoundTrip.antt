@@ -95,6 +95,11 @@ abbrev pub listed : Tail → List ℤ → List ℤ
 listed none es = []
 listed (counted e) es = es
 
+pub still-inside : (kept : Remembered) (v : Value) → inside (kept .point) ≡ true → isValue v ≡ true → inside (afterValue kept v .point) ≡ true
+still-inside kept (number e v) i ok = i
+still-inside kept (scaled m x) i ok = i
+still-inside kept (place p) i ok = ok
+
 module _ (s : List ℕ) where
   value-back : (kept : Remembered) (v : Value) (at : ℕ) → inside (kept .point) ≡ true → isValue v ≡ true → Stands s at (spellValue kept v) → partAt kept (partOf v) s at ≡ done (record { values = v ∷ []; next = at + length (spellValue kept v); kept = afterValue kept v })
   unfolding partAt pairAt entryAt spellEntry
@@ -114,11 +119,6 @@ module _ (s : List ℕ) where
       let w = sent kept (spellPoint (kept .point) p) in
       let (r, (er, (ev, en))) = got (pointAt kept s at) p (at + length w) (point-back kept p i ok s at st) in
       rw (er, ev, en)
-
-  still-inside : (kept : Remembered) (v : Value) → inside (kept .point) ≡ true → isValue v ≡ true → inside (afterValue kept v .point) ≡ true
-  still-inside kept (number e v) i ok = i
-  still-inside kept (scaled m x) i ok = i
-  still-inside kept (place p) i ok = ok
 
   values-back : (kept : Remembered) (vs : List Value) (at : ℕ) → inside (kept .point) ≡ true → areValues vs ≡ true → Stands s at (spellValues kept vs) → fixedAt kept (map partOf vs) s at ≡ done (record { values = vs; next = at + length (spellValues kept vs); kept = afterValues kept vs })
   unfolding fixedAt spellValues afterValues

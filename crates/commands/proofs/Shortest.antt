@@ -141,7 +141,7 @@ pair-good kept s at =
     (λ x p h. not-done (PairShown kept s at) x p))
     (λ x p g. not-done (PairShown kept s at) x p)
 
-part-good : (kept : Remembered) (p : Part) (s : List ℕ) (at : ℕ) → Done (FixedShown kept (p ∷ []) s at) (partAt kept p s at)
+pub part-good : (kept : Remembered) (p : Part) (s : List ℕ) (at : ℕ) → Done (FixedShown kept (p ∷ []) s at) (partAt kept p s at)
 unfolding partAt
 part-good kept (single e) s at =
     by-then (Done (FixedShown kept (single e ∷ []) s at)) (entryAt e kept s at) _
@@ -249,11 +249,11 @@ tail-good kept (counted e) s at h =
 
 -- ---- the letters
 
-record HeadShown (s : List ℕ) (at : ℕ) (h : Letters) : Type 0 where
-  known : kindOf (h .first) (h .second) ≡ Is (h .kind)
-  room : at + 2 ≤ length s
+pub record HeadShown (s : List ℕ) (at : ℕ) (h : Letters) : Type 0 where
+  pub known : kindOf (h .first) (h .second) ≡ Is (h .kind)
+  pub room : at + 2 ≤ length s
 
-letter-good : (s : List ℕ) (at : ℕ) → Done (λ (b : ℕ). at < length s) (letterAt s at)
+pub letter-good : (s : List ℕ) (at : ℕ) → Done (λ (b : ℕ). at < length s) (letterAt s at)
 unfolding letterAt
 letter-good s at =
     by-pick (Done (λ (b : ℕ). at < length s)) (ltb at (length s)) _ _
@@ -266,7 +266,7 @@ completed-good : (s : List ℕ) (at a b p : ℕ) (f : Found) → kindOf a b ≡ 
 completed-good s at a b p (Is k) e h = is-done (HeadShown s at) (record { known = e; room = h })
 completed-good s at a b p NoKind e h = not-done (HeadShown s at) 2 p
 
-head-good : (s : List ℕ) (at : ℕ) → Done (HeadShown s at) (headAt s at)
+pub head-good : (s : List ℕ) (at : ℕ) → Done (HeadShown s at) (headAt s at)
 unfolding headAt secondAt
 head-good s at =
     by-then (Done (HeadShown s at)) (letterAt s at) _
