@@ -5,3 +5,4 @@ pub mod Lists
 pub mod RoundTrip
 pub mod Shortest
 pub mod Places
+pub mod Coinciding

@@ -1,1 +1,3 @@
 pub mod Reading
+pub mod Partition
+pub mod Coinciding
