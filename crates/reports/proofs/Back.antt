@@ -3,7 +3,7 @@ use Prim.Native.Nat.{ℕ, zero, suc, _+_, _-_, _*_, _/_, _%_, _≤_, _<_}
 use mathlib.Core.Path.{_≡_, refl, sym, _∙_, ap}
 use mathlib.Core.Bool.{Bool, true, false, _&&_}
 use mathlib.Core.List.{List, [], _∷_, _++_, map}
-use mathlib.Core.Logic.{_⊎_, inl, inr}
+use mathlib.Core.Logic.{_⊎_, inl, inr, ⊎-elim}
 use native.Mathlib.Omega.{arith}
 use native.Mathlib.Decide.{ℕ-discrete}
 use borrow.Author.Tests.{le-leb, ltb-true, ltb-false, leb-true}
@@ -12,7 +12,7 @@ use lib.ListN.{length, getD, take, drop, length-map, length-drop}
 use lib.Seq.{getD-take, getD-drop, length-take-le}
 use lib.IntN.{ℤ, pos, negsuc, natAbs}
 use Rattle.refusals.specs.Answers.{every, Answer, done, refused, Read, endsAfter}
-use Rattle.refusals.proofs.Cases.{by-pick, by-then, Done, done-of, done-map, is-done, not-done}
+use Rattle.refusals.proofs.Cases.{by-pick, by-then, Done, done-of, done-map, is-done, not-done, zero-one}
 use Rattle.wire.proofs.Feeds.{Stands}
 use Rattle.numbers.specs.Integers.{signedOf, isNegative, lowOf}
 use Rattle.numbers.specs.Counts.{asCount, countIn}
@@ -145,8 +145,9 @@ same-bytes : (l : List ℕ) → bytesOf (map pos l) ≡ l
 same-bytes [] = refl
 same-bytes (b ∷ l) = ap (λ (m : List ℕ). b ∷ m) (same-bytes l)
 
--- what reads as a string: its entries can be written, and stand as they are written behind a length that reads as their number
+-- what reads as a string: its entries can be written, and stand as they are written behind a length that is written so, or is minus nought
 pub record Text (s : List ℕ) (at : ℕ) (r : Held) : Type 0 where
+  pub heading : Stands s at (spellReport (pos (r .count))) ⊎ (Stands s at (32 ∷ 32 ∷ 32 ∷ []) × (r .count ≡ 0))
   pub writable : isString (entriesAt (r .count) s (at + 3)) ≡ true
   pub number : length (entriesAt (r .count) s (at + 3)) ≡ r .count
   pub stand : Stands s (at + 3) (bytesOf (entriesAt (r .count) s (at + 3)))
@@ -166,7 +167,35 @@ count-most most a =
     Few : Answer (Read ℕ) → Type 0
     Few = Done (λ (r : Read ℕ). r .value ≤ most)
 
-module _ (s : List ℕ) (at k n : ℕ) (few : k ≤ 256) (fit : at + 3 ≤ length s) (e : charactersEnd k s (at + 3) ≡ done n) where
+-- a count was read as that integer
+count-of : (most : ℕ) (a : Answer (Read ℤ)) → Done (λ (c : Read ℕ). (i : Read ℤ) × ((a ≡ done i) × (i .value ≡ pos (c .value)))) (countIn most a)
+unfolding countIn
+count-of most (done i) =
+    by-pick (Done P) (isNegative (i .value)) _ _
+    (λ t. not-done P 5 (i .place))
+    (λ t. by-pick (Done P) (leb (natAbs (i .value)) most) _ _
+    (λ u. is-done P (i, (refl, plain (i .value) t)))
+    (λ u. not-done P 5 (i .place)))
+  where
+    P : Read ℕ → Type 0
+    P c = (j : Read ℤ) × ((done i ≡ done j) × (j .value ≡ pos (c .value)))
+
+    plain : (v : ℤ) → isNegative v ≡ false → v ≡ pos (natAbs v)
+    plain (pos n) e = refl
+    plain (negsuc n) e = let k : _≡_ {A = ℕ} 0 1 = cc in absurd (zero-one k)
+count-of most (refused e p) = not-done (λ (c : Read ℕ). (i : Read ℤ) × ((refused e p ≡ done i) × (i .value ≡ pos (c .value)))) e p
+
+heading-of : (s : List ℕ) (at : ℕ) {c : Read ℕ} → countIn 256 (reportAt s at) ≡ done c → Stands s at (spellReport (pos (c .value))) ⊎ (Stands s at (32 ∷ 32 ∷ 32 ∷ []) × (c .value ≡ 0))
+heading-of s at {c} e = from (done-of (λ (c : Read ℕ). (i : Read ℤ) × ((reportAt s at ≡ done i) × (i .value ≡ pos (c .value)))) (count-of 256 (reportAt s at)) e)
+  where
+    from : (i : Read ℤ) × ((reportAt s at ≡ done i) × (i .value ≡ pos (c .value))) → Stands s at (spellReport (pos (c .value))) ⊎ (Stands s at (32 ∷ 32 ∷ 32 ∷ []) × (c .value ≡ 0))
+    from (i, (q, v)) =
+        ⊎-elim
+        (λ (st : Stands s at (spellReport (i .value))). inl (rw v at st))
+        (λ (z : Stands s at (32 ∷ 32 ∷ 32 ∷ []) × (i .value ≡ pos 0)). inr (z .0, let w : pos (c .value) ≡ pos 0 = sym v ∙ z .1 in cc))
+        (report-shown s at q .bytes)
+
+module _ (s : List ℕ) (at k n : ℕ) (head : Stands s at (spellReport (pos k)) ⊎ (Stands s at (32 ∷ 32 ∷ 32 ∷ []) × (k ≡ 0))) (few : k ≤ 256) (fit : at + 3 ≤ length s) (e : charactersEnd k s (at + 3) ≡ done n) where
   ends : (n ≡ at + 3 + k) × (at + 3 + k ≤ length s)
   ends = run-within k s (at + 3) n fit e
 
@@ -178,6 +207,7 @@ module _ (s : List ℕ) (at k n : ℕ) (few : k ≤ 256) (fit : at + 3 ≤ lengt
   text : Text s at (record { count = k; next = n })
   unfolding isString
   text = record {
+    heading = head;
     writable = rw (long, le-leb k 256 few) (done-of (AllCharacters s k (at + 3)) (run-characters k s (at + 3)) e);
     number = long;
     stand = rw (same-bytes (take k (drop (at + 3) s))) (part-stands k s (at + 3) (ends .1));
@@ -193,7 +223,7 @@ string-good s at room =
     let few = done-of (λ (r : Read ℕ). r .value ≤ 256) (count-most 256 (reportAt s at)) e in
     by-then (Done (Text s at)) (charactersEnd (c .value) s (c .next)) _
     (λ n g. by-pick (Done (Text s at)) (leb (c .value) room) _ _
-    (λ t. is-done (Text s at) (text s at (c .value) n few (q .1) (rw (q .0) at g)))
+    (λ t. is-done (Text s at) (text s at (c .value) n (heading-of s at e) few (q .1) (rw (q .0) at g)))
     (λ t. not-done (Text s at) 7 at))
     (λ x p g. not-done (Text s at) x p))
     (λ x p e. not-done (Text s at) x p)

@@ -124,6 +124,9 @@ module _ (s : List ℕ) (at : ℕ) (vs : List ℤ) (ok : isString vs ≡ true) (
   pub string-entries : entriesAt (length vs) s (at + 3) ≡ vs
   string-entries = entries-back s (at + 3) vs all rest
 
-pub string-round : (before after : List ℕ) (vs : List ℤ) (room : ℕ) → isString vs ≡ true → length vs ≤ room → stringAt (before ++ (spellString vs ++ after)) (length before) room ≡ done (record { count = length vs; next = length before + 3 + length vs })
+-- a written string reads back with its number of entries and its entries, whatever stands before and after
+pub string-round : (before after : List ℕ) (vs : List ℤ) (room : ℕ) → isString vs ≡ true → length vs ≤ room → (stringAt (before ++ (spellString vs ++ after)) (length before) room ≡ done (record { count = length vs; next = length before + 3 + length vs })) × (entriesAt (length vs) (before ++ (spellString vs ++ after)) (length before + 3) ≡ vs)
 string-round before after vs room ok h =
-    string-back (before ++ (spellString vs ++ after)) (length before) vs ok (stands-between before (spellString vs) after) room h
+    let s = before ++ (spellString vs ++ after) in
+    let st = stands-between before (spellString vs) after in
+    (string-back s (length before) vs ok st room h, string-entries s (length before) vs ok st)

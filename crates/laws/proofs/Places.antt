@@ -31,11 +31,10 @@ use Rattle.parameters.specs.Entries.{entryAt, asEntry, Held, runAt}
 use Rattle.parameters.specs.Shapes.{Part, single, real, point, Tail, none, counted, Value, shapeOf}
 use Rattle.parameters.specs.Looking.{Pair, pairAt, Fixed, partAt, fixedAt, tailAt, Parsed, parametersAt}
 use Rattle.points.specs.Reading.{byKind, notAllowed, endsAt, loX, lastAt, afterLoY, afterUpper, afterHiY, pointFrom, pointAt}
-
 use Rattle.commands.specs.Reading.{letterAt, Letters, completed, secondAt, headAt, Meaning, bodyAt, commandAt}
 use Rattle.commands.specs.Writing.{isValue, areValues, afterValue, afterValues}
-use Rattle.commands.proofs.RoundTrip.{still-inside}
-use Rattle.commands.proofs.Shortest.{FixedShown, part-good, HeadShown, head-good, letter-good}
+use Rattle.laws.proofs.RoundTrip.{still-inside}
+use Rattle.laws.proofs.Shortest.{FixedShown, part-good, HeadShown, head-good, letter-good}
 
 -- where reading goes on
 abbrev onward : {A : Type 0} → Read A → ℕ
@@ -65,7 +64,6 @@ module _ (kept : Remembered) (s : List ℕ) where
     where
       P : Answer (Read ℕ) → Type 0
       P = Ranged onward at (length s)
-
 
   -- ---- numbers
 
@@ -121,12 +119,12 @@ module _ (kept : Remembered) (s : List ℕ) where
   count-ranged at i =
       ranged-then onward onward at (length s) (integerAt kept s at) _ (integer-ranged 2 0 at i)
       (λ r e f w.
-          let q : (at ≤ r .place) × (r .place ≤ length s) = placed-of (integer-placed 2 0 at i) e in
-          by-pick (Ranged onward at (length s)) (isNegative (r .value)) _ _
-          (λ t. ranged-refused onward at (length s) 5 (r .place) (q .0) (q .1))
-          (λ t. by-pick (Ranged onward at (length s)) (leb (natAbs (r .value)) 256) _ _
-          (λ u. ranged-done onward at (length s) _ f w)
-          (λ u. ranged-refused onward at (length s) 5 (r .place) (q .0) (q .1))))
+      let q : (at ≤ r .place) × (r .place ≤ length s) = placed-of (integer-placed 2 0 at i) e in
+      by-pick (Ranged onward at (length s)) (isNegative (r .value)) _ _
+      (λ t. ranged-refused onward at (length s) 5 (r .place) (q .0) (q .1))
+      (λ t. by-pick (Ranged onward at (length s)) (leb (natAbs (r .value)) 256) _ _
+      (λ u. ranged-done onward at (length s) _ f w)
+      (λ u. ranged-refused onward at (length s) 5 (r .place) (q .0) (q .1))))
     where
       placed-of : {a : Answer (Read ℤ)} {x : Read ℤ} → Ranged (λ (r : Read ℤ). r .place) at (length s) a → a ≡ done x → (at ≤ x .place) × (x .place ≤ length s)
       placed-of h e = ranged-to (λ (r : Read ℤ). r .place) at (length s) h e
@@ -250,11 +248,11 @@ fixed-ranged kept [] s at j i = ranged-done (λ (f : Fixed). f .next) at (length
 fixed-ranged kept (p ∷ ps) s at j i =
     ranged-then (λ (f : Fixed). f .next) (λ (f : Fixed). f .next) at (length s) (partAt kept p s at) _ (part-ranged kept s p at j i)
     (λ f e x w.
-        let a = done-of (FixedShown kept (p ∷ []) s at) (part-good kept p s at) e in
-        let n : inside (f .kept .point) ≡ true = ap (λ (k : Remembered). inside (k .point)) (a .kept-is) ∙ after-inside kept (f .values) j (a .writable) in
-        farther (λ (g : Fixed). g .next) at (f .next) (length s) _ x
-        (ranged-then (λ (g : Fixed). g .next) (λ (g : Fixed). g .next) (f .next) (length s) (fixedAt (f .kept) ps s (f .next)) _ (fixed-ranged (f .kept) ps s (f .next) n w)
-        (λ g q y z. ranged-done (λ (h : Fixed). h .next) (f .next) (length s) _ y z)))
+    let a = done-of (FixedShown kept (p ∷ []) s at) (part-good kept p s at) e in
+    let n : inside (f .kept .point) ≡ true = ap (λ (k : Remembered). inside (k .point)) (a .kept-is) ∙ after-inside kept (f .values) j (a .writable) in
+    farther (λ (g : Fixed). g .next) at (f .next) (length s) _ x
+    (ranged-then (λ (g : Fixed). g .next) (λ (g : Fixed). g .next) (f .next) (length s) (fixedAt (f .kept) ps s (f .next)) _ (fixed-ranged (f .kept) ps s (f .next) n w)
+    (λ g q y z. ranged-done (λ (h : Fixed). h .next) (f .next) (length s) _ y z)))
 
 parameters-ranged : (kept : Remembered) (k : Kind) (s : List ℕ) (at : ℕ) → inside (kept .point) ≡ true → at ≤ length s → Ranged (λ (p : Parsed). p .next) at (length s) (parametersAt kept (shapeOf k) s at)
 unfolding parametersAt
@@ -294,11 +292,11 @@ unfolding headAt secondAt
 head-ranged s at i =
     ranged-then (λ (b : ℕ). at) (λ (h : Letters). at + 1) at (length s) (letterAt s at) _ (letter-ranged s at i)
     (λ a e x w.
-        let l : at < length s = done-of (λ (b : ℕ). at < length s) (letter-good s at) e in
-        by-pick (Ranged (λ (h : Letters). at + 1) at (length s)) (begins a) _ _
-        (λ t. ranged-then (λ (b : ℕ). at + 1) (λ (h : Letters). at + 1) at (length s) (letterAt s (at + 1)) _ (farther (λ (b : ℕ). at + 1) at (at + 1) (length s) (letterAt s (at + 1)) (omega arith) (letter-ranged s (at + 1) (omega arith)))
-        (λ b q y z. completed-ranged s at (at + 1) a b (kindOf a b) (omega arith) (omega arith)))
-        (λ t. ranged-refused (λ (h : Letters). at + 1) at (length s) 2 at (omega arith) i))
+    let l : at < length s = done-of (λ (b : ℕ). at < length s) (letter-good s at) e in
+    by-pick (Ranged (λ (h : Letters). at + 1) at (length s)) (begins a) _ _
+    (λ t. ranged-then (λ (b : ℕ). at + 1) (λ (h : Letters). at + 1) at (length s) (letterAt s (at + 1)) _ (farther (λ (b : ℕ). at + 1) at (at + 1) (length s) (letterAt s (at + 1)) (omega arith) (letter-ranged s (at + 1) (omega arith)))
+    (λ b q y z. completed-ranged s at (at + 1) a b (kindOf a b) (omega arith) (omega arith)))
+    (λ t. ranged-refused (λ (h : Letters). at + 1) at (length s) 2 at (omega arith) i))
 
 command-refuses : (kept : Remembered) (s : List ℕ) (start room : ℕ) → inside (kept .point) ≡ true → start < length s → Refuses s start (commandAt kept s start room)
 unfolding commandAt bodyAt Refuses
@@ -306,10 +304,10 @@ command-refuses kept s start room j h =
     by-pick (Refuses s start) (ltb start (length s)) _ _
     (λ t. refuses-then (λ (l : Letters). start + 1 + 1) s start (headAt s (start + 1)) _ (head-ranged s (start + 1) (omega arith))
     (λ l e.
-        let a = done-of (HeadShown s (start + 1)) (head-good s (start + 1)) e in
-        refuses-then (λ (p : Parsed). p .next) s start (parametersAt kept (shapeOf (l .kind)) s (start + 3)) _
-        (farther (λ (p : Parsed). p .next) (start + 1) (start + 3) (length s) _ (omega arith) (parameters-ranged kept (l .kind) s (start + 3) j (omega (arith, a .room))))
-        (λ p q. by-pick (Refuses s start) (leb (p .count) room) _ _ (λ u. tt) (λ u. inl refl))))
+    let a = done-of (HeadShown s (start + 1)) (head-good s (start + 1)) e in
+    refuses-then (λ (p : Parsed). p .next) s start (parametersAt kept (shapeOf (l .kind)) s (start + 3)) _
+    (farther (λ (p : Parsed). p .next) (start + 1) (start + 3) (length s) _ (omega arith) (parameters-ranged kept (l .kind) s (start + 3) j (omega (arith, a .room))))
+    (λ p q. by-pick (Refuses s start) (leb (p .count) room) _ _ (λ u. tt) (λ u. inl refl))))
     (λ t. inr (omega arith, omega arith))
 
 pub command-refused : (kept : Remembered) (s : List ℕ) (start room : ℕ) {e p : ℕ} → inside (kept .point) ≡ true → start < length s → commandAt kept s start room ≡ refused e p → (e ≡ 7) ⊎ ((start + 1 ≤ p) × (p ≤ length s))

@@ -14,9 +14,9 @@ use Rattle.memory.specs.Memory.{inside}
 use Rattle.refusals.specs.Answers.{Answer, done, refused, pick}
 use Rattle.refusals.proofs.Cases.{by-pick}
 use Rattle.commands.specs.Reading.{Meaning, commandAt}
-use Rattle.commands.proofs.Shortest.{command-shown}
-use Rattle.commands.proofs.Places.{command-refused}
+use Rattle.laws.proofs.Shortest.{command-shown}
+use Rattle.laws.proofs.Places.{command-refused}
 use Rattle.stream.specs.Items.{Itemed, nothing, text, command, trouble, unread, passed, passedFrom, asItem, commandItem, itemAt}
 
 -- where the item that starts at start ends; of what is no item nothing is said
 unfoldable pub Ends : List ℕ → ℕ → Itemed Meaning → Type 0

@@ -1,0 +1,4 @@
+pub mod RoundTrip
+pub mod Shortest
+pub mod Places
+pub mod Partition

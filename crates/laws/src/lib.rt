@@ -1,0 +1,1 @@
+// The laws of whole commands, proved over their definitions: proofs/RoundTrip.antt, Shortest.antt, Places.antt.
