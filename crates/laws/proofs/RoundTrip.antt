@@ -12,7 +12,7 @@ use lib.IntN.{ℤ, pos, natAbs}
 use Rattle.memory.specs.declared.Point.{Point}
 use Rattle.memory.specs.declared.Remembered.{Remembered}
 use Rattle.memory.specs.Memory.{inside, remember}
-use Rattle.refusals.specs.Answers.{Answer, done, refused, Read, Reads, then, endsAfter, allAfter, every}
+use Rattle.refusals.specs.Answers.{Answer, done, refused, Read, Reads, then, pick, endsAfter, allAfter, every}
 use Rattle.refusals.proofs.Cases.{and-left, and-right, zero-one}
 use Rattle.wire.specs.Taking.{byteAt}
 use Rattle.wire.specs.Sending.{sent}
@@ -29,7 +29,7 @@ use Rattle.table.specs.declared.Kind.{Kind}
 use Rattle.table.specs.declared.Kind.the-variants as K
 use Rattle.table.specs.declared.Found.{Found}
 use Rattle.table.specs.declared.Found.the-variants.{Is, NoKind}
-use Rattle.table.specs.Table.{Row, table, pickFound, kindIn, kindOf, beginsIn, begins}
+use Rattle.table.specs.Table.{Row, table, kindIn, kindOf, beginsIn, begins}
 use Rattle.parameters.specs.declared.Entry.{Entry}
 use Rattle.parameters.specs.declared.Entry.the-variants.{AnInteger, ACharacter}
 use Rattle.parameters.specs.declared.Parameters.{Parameters}
@@ -214,7 +214,7 @@ found-begins : (rows : List Row) (a b : ℕ) {k : Kind} → kindIn rows a b ≡ 
 found-begins [] a b e = let z : _≡_ {A = ℕ} 0 1 = cc in absurd (zero-one z)
 found-begins (r ∷ rs) a b {k} e = by (eqb a (r .first)) (eqb b (r .second)) (λ g. found-begins rs a b g) e
   where
-    by : (t u : Bool) → (kindIn rs a b ≡ Is k → beginsIn rs a ≡ true) → pickFound (t && u) (Is (r .kind)) (kindIn rs a b) ≡ Is k → t || beginsIn rs a ≡ true
+    by : (t u : Bool) → (kindIn rs a b ≡ Is k → beginsIn rs a ≡ true) → pick (t && u) (Is (r .kind)) (kindIn rs a b) ≡ Is k → t || beginsIn rs a ≡ true
     by true u next e = refl
     by false u next e = next e
 

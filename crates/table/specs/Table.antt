@@ -4,6 +4,7 @@ use Prim.Native.Nat.{ℕ}
 use mathlib.Core.Bool.{Bool, false, _&&_, _||_}
 use mathlib.Core.List.{List, [], _∷_}
 use lib.Dec.{eqb}
+use Rattle.refusals.specs.Answers.{pick}
 use Rattle.table.specs.declared.Kind.{Kind}
 use Rattle.table.specs.declared.Kind.the-variants.{AnInteger, TwoIntegers, ThreeIntegers, APoint, TwoPoints, AReal, AString, AnArray, IntegerThenArray, IntegerThenString, TwoCharacters}
 use Rattle.table.specs.declared.Found.{Found}
@@ -51,14 +52,10 @@ table =
     ∷ command 73 81 TwoCharacters
     ∷ []
 
-abbrev pub pickFound : Bool → Found → Found → Found
-pickFound Bool.true a b = a
-pickFound Bool.false a b = b
-
--- the kind of the first entry with these letters
+-- the kind of the first row with these letters
 abbrev pub kindIn : List Row → ℕ → ℕ → Found
 kindIn [] a b = NoKind
-kindIn (e ∷ es) a b = pickFound (eqb a (e .first) && eqb b (e .second)) (Is (e .kind)) (kindIn es a b)
+kindIn (e ∷ es) a b = pick (eqb a (e .first) && eqb b (e .second)) (Is (e .kind)) (kindIn es a b)
 
 unfoldable pub kindOf : ℕ → ℕ → Found
 kindOf a b = kindIn table a b

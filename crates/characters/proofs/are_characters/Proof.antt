@@ -6,9 +6,6 @@ use Rattle.refusals.proofs.Many.{Checking, checkings}
 use Rattle.characters.specs.Characters.{isCharacter}
 use Rattle.characters.proofs.are_characters.Statement.{statement}
 use Rattle.characters.proofs.are_characters.Tie as tie
-use Rattle.characters.proofs.are_characters.Reads as reads
-use Rattle.characters.proofs.are_characters.Lts as lts
-use Rattle.characters.proofs.is_character.Reads as is-character-reads
 
 abbrev Inv-loop : tie.InvT-loop
 Inv-loop list i₀ i = Checking isCharacter list i
@@ -16,39 +13,30 @@ Inv-loop list i₀ i = Checking isCharacter list i
 abbrev μ-loop : tie.MeasureT-loop
 μ-loop list i₀ i = length list - i
 
--- src/lib.rt:24:5
 loop-holds : tie.Need-loop-holds Inv-loop μ-loop
 loop-holds c = search (needs, checkings)
 
--- src/lib.rt:25:17
 mul-v : tie.Need-mul-v Inv-loop μ-loop
 mul-v c = omega arith
 
--- src/lib.rt:25:17
 shared-slice-copy-out-v : tie.Need-shared-slice-copy-out-v Inv-loop μ-loop
 shared-slice-copy-out-v c = omega arith
 
--- src/lib.rt:26:12
 is-character-requires : tie.Need-is-character-requires Inv-loop μ-loop
 is-character-requires c κs = search needs
 
--- src/lib.rt:27:17
 add-i : tie.Need-add-i Inv-loop μ-loop
 add-i c = omega arith
 
--- src/lib.rt:24:5
 loop-less : tie.Need-loop-less Inv-loop μ-loop
 loop-less c = omega arith
 
--- src/lib.rt:24:5
 loop-again : tie.Need-loop-again Inv-loop μ-loop
 loop-again c = search (needs, checkings)
 
--- src/lib.rt:29:13
 returns : tie.Need-returns Inv-loop μ-loop
 returns c = search (needs, checkings)
 
--- src/lib.rt:20:1
 returns-2 : tie.Need-returns-2 Inv-loop μ-loop
 returns-2 c = search (needs, checkings)
 

@@ -5,9 +5,6 @@ use Rattle.refusals.proofs.Many.{Checking, checkings}
 use Rattle.commands.specs.Writing.{isEntry}
 use Rattle.commands.proofs.are_entries.Statement.{statement}
 use Rattle.commands.proofs.are_entries.Tie as tie
-use Rattle.commands.proofs.are_entries.Reads as reads
-use Rattle.commands.proofs.are_entries.Lts as lts
-use Rattle.commands.proofs.is_entry.Reads as is-entry-reads
 
 abbrev Inv-loop : tie.InvT-loop
 Inv-loop entry list i₀ i = Checking (isEntry entry) list i
@@ -15,39 +12,30 @@ Inv-loop entry list i₀ i = Checking (isEntry entry) list i
 abbrev μ-loop : tie.MeasureT-loop
 μ-loop entry list i₀ i = length list - i
 
--- src/lib.rt:216:5
 loop-holds : tie.Need-loop-holds Inv-loop μ-loop
 loop-holds c = search (needs, checkings)
 
--- src/lib.rt:217:17
 mul-v : tie.Need-mul-v Inv-loop μ-loop
 mul-v c = search needs
 
--- src/lib.rt:217:17
 shared-slice-copy-out-v : tie.Need-shared-slice-copy-out-v Inv-loop μ-loop
 shared-slice-copy-out-v c = search needs
 
--- src/lib.rt:218:12
 is-entry-requires : tie.Need-is-entry-requires Inv-loop μ-loop
 is-entry-requires c κs = search needs
 
--- src/lib.rt:219:17
 add-i : tie.Need-add-i Inv-loop μ-loop
 add-i c = search needs
 
--- src/lib.rt:216:5
 loop-less : tie.Need-loop-less Inv-loop μ-loop
 loop-less c = search needs
 
--- src/lib.rt:216:5
 loop-again : tie.Need-loop-again Inv-loop μ-loop
 loop-again c = search (needs, checkings)
 
--- src/lib.rt:221:13
 returns : tie.Need-returns Inv-loop μ-loop
 returns c = search (needs, checkings)
 
--- src/lib.rt:212:1
 returns-2 : tie.Need-returns-2 Inv-loop μ-loop
 returns-2 c = search (needs, checkings)
 

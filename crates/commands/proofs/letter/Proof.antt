@@ -3,24 +3,18 @@ use Rattle.refusals.proofs.Rules.{tests}
 use borrow.Author.Needs.{needs}
 use Rattle.commands.proofs.letter.Statement.{statement}
 use Rattle.commands.proofs.letter.Tie as tie
-use Rattle.commands.proofs.letter.Reads as reads
-use Rattle.commands.proofs.letter.Lts as lts
 
--- src/lib.rt:44:9
 returns : tie.Need-returns
 unfolding letterAt letterOf
 returns c = search tests
 
--- src/lib.rt:46:13
 shared-slice-read-b : tie.Need-shared-slice-read-b
 shared-slice-read-b c = search needs
 
--- src/lib.rt:48:9
 returns-2 : tie.Need-returns-2
 unfolding letterAt letterOf
 returns-2 c = search tests
 
--- src/lib.rt:40:1
 returns-3 : tie.Need-returns-3
 unfolding letterAt letterOf
 returns-3 c = search tests

@@ -2,19 +2,13 @@ use Rattle.commands.proofs.Fitting.{tails}
 use borrow.Author.Needs.{needs}
 use Rattle.commands.proofs.list_fits.Statement.{statement}
 use Rattle.commands.proofs.list_fits.Tie as tie
-use Rattle.commands.proofs.list_fits.Reads as reads
-use Rattle.commands.proofs.list_fits.Lts as lts
-use Rattle.commands.proofs.are_entries.Reads as are-entries-reads
 
--- src/lib.rt:258:9
 returns : tie.Need-returns
 returns c = search (needs, tails)
 
--- src/lib.rt:260:5
 are-entries-requires : tie.Need-are-entries-requires
 are-entries-requires c κs = search needs
 
--- src/lib.rt:254:1
 returns-2 : tie.Need-returns-2
 returns-2 c = search (needs, tails)
 

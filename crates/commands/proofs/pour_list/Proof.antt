@@ -3,41 +3,31 @@ use Rattle.commands.proofs.Lists.{count-few, tails}
 use borrow.Author.Needs.{needs}
 use Rattle.commands.proofs.pour_list.Statement.{statement}
 use Rattle.commands.proofs.pour_list.Tie as tie
-use Rattle.commands.proofs.pour_list.Reads as reads
-use Rattle.commands.proofs.pour_list.Lts as lts
-use Rattle.commands.proofs.pour_entries.Reads as pour-entries-reads
-use Rattle.numbers.proofs.pour_count.Reads as pour-count-reads
 
--- src/lib.rt:388:9
 pour-count-requires : tie.Need-pour-count-requires
 pour-count-requires c κs = search needs
 
--- src/lib.rt:389:16
 add-next : tie.Need-add-next
 add-next c =
     let start = c .before .before .before .before .before in
     let few = count-few (start .args .entry) (start .args .kept) _ (start .pre .0) (c .before .before .pour-count .ensures .0) in
     omega (arith, few)
 
--- src/lib.rt:390:9
 pour-entries-requires : tie.Need-pour-entries-requires
 pour-entries-requires c κs =
     let start = c .before .before .before .before .before .before in
     let few = count-few (start .args .entry) (start .args .kept) _ (start .pre .0) (c .before .before .before .pour-count .ensures .0) in
     ((search (needs, tails), search (needs, tails)), omega (arith, few))
 
--- src/lib.rt:391:5
 add-result : tie.Need-add-result
 add-result c =
     let start = c .before .before .before .before .before .before .before .before .before in
     let few = count-few (start .args .entry) (start .args .kept) _ (start .pre .0) (c .before .before .before .before .before .before .pour-count .ensures .0) in
     omega (arith, few)
 
--- src/lib.rt:384:1
 same-length : tie.Need-same-length
 same-length c = search needs
 
--- src/lib.rt:384:1
 returns : tie.Need-returns
 returns c = search (needs, tails)
 

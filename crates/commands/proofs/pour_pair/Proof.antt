@@ -3,31 +3,22 @@ use Rattle.commands.proofs.Pouring.{pair-poured}
 use borrow.Author.Needs.{needs}
 use Rattle.commands.proofs.pour_pair.Statement.{statement}
 use Rattle.commands.proofs.pour_pair.Tie as tie
-use Rattle.commands.proofs.pour_pair.Reads as reads
-use Rattle.commands.proofs.pour_pair.Lts as lts
-use Rattle.commands.proofs.pour_entry.Reads as pour-entry-reads
 
--- src/lib.rt:315:9
 pour-entry-requires : tie.Need-pour-entry-requires
 pour-entry-requires c κs = search needs
 
--- src/lib.rt:316:16
 add-next : tie.Need-add-next
 add-next c = search needs
 
--- src/lib.rt:317:9
 pour-entry-requires-2 : tie.Need-pour-entry-requires-2
 pour-entry-requires-2 c κs = search needs
 
--- src/lib.rt:318:5
 add-result : tie.Need-add-result
 add-result c = search needs
 
--- src/lib.rt:311:1
 same-length : tie.Need-same-length
 same-length c = search needs
 
--- src/lib.rt:311:1
 returns : tie.Need-returns
 returns c =
     let start = c .before .before .before .before .before .before .before .before .before in

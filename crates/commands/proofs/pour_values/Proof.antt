@@ -3,171 +3,124 @@ use Rattle.commands.proofs.Pouring.{oks, values, scale-first, scale-sec
 use borrow.Author.Needs.{needs}
 use Rattle.commands.proofs.pour_values.Statement.{statement}
 use Rattle.commands.proofs.pour_values.Tie as tie
-use Rattle.commands.proofs.pour_values.Reads as reads
-use Rattle.commands.proofs.pour_values.Lts as lts
-use Rattle.commands.proofs.pour_corners.Reads as pour-corners-reads
-use Rattle.commands.proofs.pour_entry.Reads as pour-entry-reads
-use Rattle.commands.proofs.pour_pair.Reads as pour-pair-reads
-use Rattle.commands.proofs.pour_place.Reads as pour-place-reads
-use Rattle.commands.proofs.pour_triple.Reads as pour-triple-reads
 
--- src/lib.rt:354:28
 enum-known-parameters : tie.Need-enum-known-parameters
 enum-known-parameters c = search needs
 
--- src/lib.rt:354:34
 pour-entry-requires : tie.Need-pour-entry-requires
 pour-entry-requires c κs = search (needs, oks)
 
--- src/lib.rt:355:28
 enum-known-parameters-2 : tie.Need-enum-known-parameters-2
 enum-known-parameters-2 c = search needs
 
--- src/lib.rt:355:37
 pour-pair-requires : tie.Need-pour-pair-requires
 pour-pair-requires c κs = search (needs, oks)
 
--- src/lib.rt:356:28
 enum-known-parameters-3 : tie.Need-enum-known-parameters-3
 enum-known-parameters-3 c = search needs
 
--- src/lib.rt:356:40
 pour-triple-requires : tie.Need-pour-triple-requires
 pour-triple-requires c κs = search (needs, oks)
 
--- src/lib.rt:357:30
 enum-known-parameters-4 : tie.Need-enum-known-parameters-4
 enum-known-parameters-4 c = search needs
 
--- src/lib.rt:357:36
 pour-place-requires : tie.Need-pour-place-requires
 pour-place-requires c κs = search (needs, oks)
 
--- src/lib.rt:358:29
 enum-known-parameters-5 : tie.Need-enum-known-parameters-5
 enum-known-parameters-5 c = search needs
 
--- src/lib.rt:358:38
 pour-corners-requires : tie.Need-pour-corners-requires
 pour-corners-requires c κs = search (needs, oks)
 
--- src/lib.rt:359:27
 enum-known-parameters-6 : tie.Need-enum-known-parameters-6
 enum-known-parameters-6 c = search needs
 
--- src/lib.rt:362:13
 pour-pair-requires-2 : tie.Need-pour-pair-requires-2
 pour-pair-requires-2 c κs = ((search (needs, scale-first), search (needs, scale-second)), omega arith)
 
--- src/lib.rt:364:29
 enum-known-parameters-7 : tie.Need-enum-known-parameters-7
 enum-known-parameters-7 c = search needs
 
--- src/lib.rt:364:38
 pour-pair-requires-3 : tie.Need-pour-pair-requires-3
 pour-pair-requires-3 c κs = search (needs, oks)
 
--- src/lib.rt:365:29
 enum-told : tie.Need-enum-told
 enum-told c = search needs
 
--- src/lib.rt:366:30
 enum-told-2 : tie.Need-enum-told-2
 enum-told-2 c = search needs
 
--- src/lib.rt:367:34
 enum-known-parameters-8 : tie.Need-enum-known-parameters-8
 enum-known-parameters-8 c = search needs
 
--- src/lib.rt:367:40
 pour-entry-requires-2 : tie.Need-pour-entry-requires-2
 pour-entry-requires-2 c κs = search (needs, oks)
 
--- src/lib.rt:368:35
 enum-known-parameters-9 : tie.Need-enum-known-parameters-9
 enum-known-parameters-9 c = search needs
 
--- src/lib.rt:368:41
 pour-entry-requires-3 : tie.Need-pour-entry-requires-3
 pour-entry-requires-3 c κs = search (needs, oks)
 
--- src/lib.rt:349:1
 same-length : tie.Need-same-length
 same-length c = search needs
 
--- src/lib.rt:349:1
 returns : tie.Need-returns
 returns c = search (needs, values)
 
--- src/lib.rt:349:1
 same-length-2 : tie.Need-same-length-2
 same-length-2 c = search needs
 
--- src/lib.rt:349:1
 returns-2 : tie.Need-returns-2
 returns-2 c = search (needs, values)
 
--- src/lib.rt:349:1
 same-length-3 : tie.Need-same-length-3
 same-length-3 c = search needs
 
--- src/lib.rt:349:1
 returns-3 : tie.Need-returns-3
 returns-3 c = search (needs, values)
 
--- src/lib.rt:349:1
 same-length-4 : tie.Need-same-length-4
 same-length-4 c = search needs
 
--- src/lib.rt:349:1
 returns-4 : tie.Need-returns-4
 returns-4 c = search (needs, values)
 
--- src/lib.rt:349:1
 same-length-5 : tie.Need-same-length-5
 same-length-5 c = search needs
 
--- src/lib.rt:349:1
 returns-5 : tie.Need-returns-5
 returns-5 c = search (needs, values)
 
--- src/lib.rt:349:1
 same-length-6 : tie.Need-same-length-6
 same-length-6 c = search needs
 
--- src/lib.rt:349:1
 returns-6 : tie.Need-returns-6
 returns-6 c = search (needs, values)
 
--- src/lib.rt:349:1
 same-length-7 : tie.Need-same-length-7
 same-length-7 c = search needs
 
--- src/lib.rt:349:1
 returns-7 : tie.Need-returns-7
 returns-7 c = search (needs, values)
 
--- src/lib.rt:349:1
 returns-8 : tie.Need-returns-8
 returns-8 c = search (needs, values)
 
--- src/lib.rt:349:1
 returns-9 : tie.Need-returns-9
 returns-9 c = search (needs, values)
 
--- src/lib.rt:349:1
 same-length-8 : tie.Need-same-length-8
 same-length-8 c = search needs
 
--- src/lib.rt:349:1
 returns-10 : tie.Need-returns-10
 returns-10 c = search (needs, values)
 
--- src/lib.rt:349:1
 same-length-9 : tie.Need-same-length-9
 same-length-9 c = search needs
 
--- src/lib.rt:349:1
 returns-11 : tie.Need-returns-11
 returns-11 c = search (needs, values)
 

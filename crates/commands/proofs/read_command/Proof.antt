@@ -2,44 +2,31 @@ use Rattle.commands.proofs.Heads.{commands}
 use borrow.Author.Needs.{needs}
 use Rattle.commands.proofs.read_command.Statement.{statement}
 use Rattle.commands.proofs.read_command.Tie as tie
-use Rattle.commands.proofs.read_command.Reads as reads
-use Rattle.commands.proofs.read_command.Lts as lts
-use Rattle.commands.proofs.body.Reads as body-reads
-use Rattle.commands.proofs.head.Reads as head-reads
 
--- src/lib.rt:131:9
 returns : tie.Need-returns
 returns c = search (needs, commands)
 
--- src/lib.rt:133:19
 add-letters : tie.Need-add-letters
 add-letters c = search needs
 
--- src/lib.rt:134:11
 head-requires : tie.Need-head-requires
 head-requires c κs = search needs
 
--- src/lib.rt:135:24
 enum-known-first : tie.Need-enum-known-first
 enum-known-first c = search needs
 
--- src/lib.rt:135:48
 body-requires : tie.Need-body-requires
 body-requires c κs = search needs
 
--- src/lib.rt:136:26
 enum-known-e : tie.Need-enum-known-e
 enum-known-e c = search needs
 
--- src/lib.rt:127:1
 same-length : tie.Need-same-length
 same-length c = search needs
 
--- src/lib.rt:127:1
 returns-2 : tie.Need-returns-2
 returns-2 c = search (needs, commands)
 
--- src/lib.rt:127:1
 returns-3 : tie.Need-returns-3
 returns-3 c = search (needs, commands)
 

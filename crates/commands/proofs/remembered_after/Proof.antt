@@ -3,113 +3,86 @@ use Rattle.commands.proofs.Lists.{after-kind}
 use borrow.Author.Needs.{needs}
 use Rattle.commands.proofs.remembered_after.Statement.{statement}
 use Rattle.commands.proofs.remembered_after.Tie as tie
-use Rattle.commands.proofs.remembered_after.Reads as reads
-use Rattle.commands.proofs.remembered_after.Lts as lts
-use Rattle.memory.proofs.with_point.Reads as with-point-reads
 
--- src/lib.rt:418:30
 enum-known-parameters : tie.Need-enum-known-parameters
 enum-known-parameters c = search needs
 
--- src/lib.rt:418:36
 with-point-requires : tie.Need-with-point-requires
 with-point-requires c κs = search needs
 
--- src/lib.rt:419:32
 enum-known-parameters-2 : tie.Need-enum-known-parameters-2
 enum-known-parameters-2 c = search needs
 
--- src/lib.rt:419:38
 with-point-requires-2 : tie.Need-with-point-requires-2
 with-point-requires-2 c κs = search needs
 
--- src/lib.rt:420:34
 enum-told : tie.Need-enum-told
 enum-told c = search needs
 
--- src/lib.rt:421:37
 enum-told-2 : tie.Need-enum-told-2
 enum-told-2 c = search needs
 
--- src/lib.rt:422:40
 enum-told-3 : tie.Need-enum-told-3
 enum-told-3 c = search needs
 
--- src/lib.rt:423:33
 enum-told-4 : tie.Need-enum-told-4
 enum-told-4 c = search needs
 
--- src/lib.rt:424:38
 enum-told-5 : tie.Need-enum-told-5
 enum-told-5 c = search needs
 
--- src/lib.rt:425:29
 enum-told-6 : tie.Need-enum-told-6
 enum-told-6 c = search needs
 
--- src/lib.rt:426:30
 enum-told-7 : tie.Need-enum-told-7
 enum-told-7 c = search needs
 
--- src/lib.rt:427:40
 enum-told-8 : tie.Need-enum-told-8
 enum-told-8 c = search needs
 
--- src/lib.rt:428:41
 enum-told-9 : tie.Need-enum-told-9
 enum-told-9 c = search needs
 
--- src/lib.rt:414:1
 returns : tie.Need-returns
 unfolding afterValues
 returns c = search (needs, after-kind)
 
--- src/lib.rt:414:1
 returns-2 : tie.Need-returns-2
 unfolding afterValues
 returns-2 c = search (needs, after-kind)
 
--- src/lib.rt:414:1
 returns-3 : tie.Need-returns-3
 unfolding afterValues
 returns-3 c = search (needs, after-kind)
 
--- src/lib.rt:414:1
 returns-4 : tie.Need-returns-4
 unfolding afterValues
 returns-4 c = search (needs, after-kind)
 
--- src/lib.rt:414:1
 returns-5 : tie.Need-returns-5
 unfolding afterValues
 returns-5 c = search (needs, after-kind)
 
--- src/lib.rt:414:1
 returns-6 : tie.Need-returns-6
 unfolding afterValues
 returns-6 c = search (needs, after-kind)
 
--- src/lib.rt:414:1
 returns-7 : tie.Need-returns-7
 unfolding afterValues
 returns-7 c = search (needs, after-kind)
 
--- src/lib.rt:414:1
 returns-8 : tie.Need-returns-8
 unfolding afterValues
 returns-8 c = search (needs, after-kind)
 
--- src/lib.rt:414:1
 returns-9 : tie.Need-returns-9
 unfolding afterValues
 returns-9 c = search (needs, after-kind)
 
--- src/lib.rt:414:1
 returns-10 : tie.Need-returns-10
 unfolding afterValues
 returns-10 c = search (needs, after-kind)
 
--- src/lib.rt:414:1
 returns-11 : tie.Need-returns-11
 unfolding afterValues
 returns-11 c = search (needs, after-kind)

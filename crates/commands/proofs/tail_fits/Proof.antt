@@ -3,121 +3,92 @@ use Rattle.commands.specs.Writing.{isTail}
 use borrow.Author.Needs.{needs}
 use Rattle.commands.proofs.tail_fits.Statement.{statement}
 use Rattle.commands.proofs.tail_fits.Tie as tie
-use Rattle.commands.proofs.tail_fits.Reads as reads
-use Rattle.commands.proofs.tail_fits.Lts as lts
-use Rattle.commands.proofs.list_fits.Reads as list-fits-reads
 
--- src/lib.rt:267:39
 enum-told : tie.Need-enum-told
 enum-told c = search needs
 
--- src/lib.rt:267:29
 list-fits-requires : tie.Need-list-fits-requires
 list-fits-requires c κs = search needs
 
--- src/lib.rt:268:50
 enum-told-2 : tie.Need-enum-told-2
 enum-told-2 c = search needs
 
--- src/lib.rt:268:40
 list-fits-requires-2 : tie.Need-list-fits-requires-2
 list-fits-requires-2 c κs = search needs
 
--- src/lib.rt:269:40
 enum-told-3 : tie.Need-enum-told-3
 enum-told-3 c = search needs
 
--- src/lib.rt:269:30
 list-fits-requires-3 : tie.Need-list-fits-requires-3
 list-fits-requires-3 c κs = search needs
 
--- src/lib.rt:270:51
 enum-told-4 : tie.Need-enum-told-4
 enum-told-4 c = search needs
 
--- src/lib.rt:270:41
 list-fits-requires-4 : tie.Need-list-fits-requires-4
 list-fits-requires-4 c κs = search needs
 
--- src/lib.rt:271:34
 enum-told-5 : tie.Need-enum-told-5
 enum-told-5 c = search needs
 
--- src/lib.rt:272:37
 enum-told-6 : tie.Need-enum-told-6
 enum-told-6 c = search needs
 
--- src/lib.rt:273:40
 enum-told-7 : tie.Need-enum-told-7
 enum-told-7 c = search needs
 
--- src/lib.rt:274:36
 enum-told-8 : tie.Need-enum-told-8
 enum-told-8 c = search needs
 
--- src/lib.rt:275:38
 enum-told-9 : tie.Need-enum-told-9
 enum-told-9 c = search needs
 
--- src/lib.rt:276:33
 enum-told-10 : tie.Need-enum-told-10
 enum-told-10 c = search needs
 
--- src/lib.rt:277:38
 enum-told-11 : tie.Need-enum-told-11
 enum-told-11 c = search needs
 
--- src/lib.rt:263:1
 returns : tie.Need-returns
 unfolding isTail
 returns c = search (needs, tails)
 
--- src/lib.rt:263:1
 returns-2 : tie.Need-returns-2
 unfolding isTail
 returns-2 c = search (needs, tails)
 
--- src/lib.rt:263:1
 returns-3 : tie.Need-returns-3
 unfolding isTail
 returns-3 c = search (needs, tails)
 
--- src/lib.rt:263:1
 returns-4 : tie.Need-returns-4
 unfolding isTail
 returns-4 c = search (needs, tails)
 
--- src/lib.rt:263:1
 returns-5 : tie.Need-returns-5
 unfolding isTail
 returns-5 c = search (needs, tails)
 
--- src/lib.rt:263:1
 returns-6 : tie.Need-returns-6
 unfolding isTail
 returns-6 c = search (needs, tails)
 
--- src/lib.rt:263:1
 returns-7 : tie.Need-returns-7
 unfolding isTail
 returns-7 c = search (needs, tails)
 
--- src/lib.rt:263:1
 returns-8 : tie.Need-returns-8
 unfolding isTail
 returns-8 c = search (needs, tails)
 
--- src/lib.rt:263:1
 returns-9 : tie.Need-returns-9
 unfolding isTail
 returns-9 c = search (needs, tails)
 
--- src/lib.rt:263:1
 returns-10 : tie.Need-returns-10
 unfolding isTail
 returns-10 c = search (needs, tails)
 
--- src/lib.rt:263:1
 returns-11 : tie.Need-returns-11
 unfolding isTail
 returns-11 c = search (needs, tails)

@@ -2,150 +2,109 @@ use Rattle.commands.proofs.Fitting.{values}
 use borrow.Author.Needs.{needs}
 use Rattle.commands.proofs.values_fit.Statement.{statement}
 use Rattle.commands.proofs.values_fit.Tie as tie
-use Rattle.commands.proofs.values_fit.Reads as reads
-use Rattle.commands.proofs.values_fit.Lts as lts
-use Rattle.commands.proofs.both.Reads as both-reads
-use Rattle.commands.proofs.is_entry.Reads as is-entry-reads
-use Rattle.commands.proofs.two_fit.Reads as two-fit-reads
-use Rattle.memory.proofs.is_inside.Reads as is-inside-reads
 
--- src/lib.rt:237:28
 enum-known-parameters : tie.Need-enum-known-parameters
 enum-known-parameters c = search needs
 
--- src/lib.rt:237:34
 is-entry-requires : tie.Need-is-entry-requires
 is-entry-requires c κs = search needs
 
--- src/lib.rt:238:28
 enum-known-parameters-2 : tie.Need-enum-known-parameters-2
 enum-known-parameters-2 c = search needs
 
--- src/lib.rt:238:37
 two-fit-requires : tie.Need-two-fit-requires
 two-fit-requires c κs = search needs
 
--- src/lib.rt:239:28
 enum-known-parameters-3 : tie.Need-enum-known-parameters-3
 enum-known-parameters-3 c = search needs
 
--- src/lib.rt:239:45
 two-fit-requires-2 : tie.Need-two-fit-requires-2
 two-fit-requires-2 c κs = search needs
 
--- src/lib.rt:239:78
 is-entry-requires-2 : tie.Need-is-entry-requires-2
 is-entry-requires-2 c κs = search needs
 
--- src/lib.rt:239:40
 both-requires : tie.Need-both-requires
 both-requires c κs = search needs
 
--- src/lib.rt:240:30
 enum-known-parameters-4 : tie.Need-enum-known-parameters-4
 enum-known-parameters-4 c = search needs
 
--- src/lib.rt:240:36
 is-inside-requires : tie.Need-is-inside-requires
 is-inside-requires c κs = search needs
 
--- src/lib.rt:241:29
 enum-known-parameters-5 : tie.Need-enum-known-parameters-5
 enum-known-parameters-5 c = search needs
 
--- src/lib.rt:241:43
 is-inside-requires-2 : tie.Need-is-inside-requires-2
 is-inside-requires-2 c κs = search needs
 
--- src/lib.rt:241:65
 is-inside-requires-3 : tie.Need-is-inside-requires-3
 is-inside-requires-3 c κs = search needs
 
--- src/lib.rt:241:38
 both-requires-2 : tie.Need-both-requires-2
 both-requires-2 c κs = search needs
 
--- src/lib.rt:242:27
 enum-known-parameters-6 : tie.Need-enum-known-parameters-6
 enum-known-parameters-6 c = search needs
 
--- src/lib.rt:242:33
 two-fit-requires-3 : tie.Need-two-fit-requires-3
 two-fit-requires-3 c κs = search needs
 
--- src/lib.rt:243:29
 enum-known-parameters-7 : tie.Need-enum-known-parameters-7
 enum-known-parameters-7 c = search needs
 
--- src/lib.rt:243:38
 two-fit-requires-4 : tie.Need-two-fit-requires-4
 two-fit-requires-4 c κs = search needs
 
--- src/lib.rt:244:29
 enum-told : tie.Need-enum-told
 enum-told c = search needs
 
--- src/lib.rt:245:30
 enum-told-2 : tie.Need-enum-told-2
 enum-told-2 c = search needs
 
--- src/lib.rt:246:34
 enum-known-parameters-8 : tie.Need-enum-known-parameters-8
 enum-known-parameters-8 c = search needs
 
--- src/lib.rt:246:40
 is-entry-requires-3 : tie.Need-is-entry-requires-3
 is-entry-requires-3 c κs = search needs
 
--- src/lib.rt:247:35
 enum-known-parameters-9 : tie.Need-enum-known-parameters-9
 enum-known-parameters-9 c = search needs
 
--- src/lib.rt:247:41
 is-entry-requires-4 : tie.Need-is-entry-requires-4
 is-entry-requires-4 c κs = search needs
 
--- src/lib.rt:233:1
 returns : tie.Need-returns
 returns c = search (needs, values)
 
--- src/lib.rt:233:1
 returns-2 : tie.Need-returns-2
 returns-2 c = search (needs, values)
 
--- src/lib.rt:233:1
 returns-3 : tie.Need-returns-3
 returns-3 c = search (needs, values)
 
--- src/lib.rt:233:1
 returns-4 : tie.Need-returns-4
 returns-4 c = search (needs, values)
 
--- src/lib.rt:233:1
 returns-5 : tie.Need-returns-5
 returns-5 c = search (needs, values)
 
--- src/lib.rt:233:1
 returns-6 : tie.Need-returns-6
 returns-6 c = search (needs, values)
 
--- src/lib.rt:233:1
 returns-7 : tie.Need-returns-7
 returns-7 c = search (needs, values)
 
--- src/lib.rt:233:1
 returns-8 : tie.Need-returns-8
 returns-8 c = search (needs, values)
 
--- src/lib.rt:233:1
 returns-9 : tie.Need-returns-9
 returns-9 c = search (needs, values)
 
--- src/lib.rt:233:1
 returns-10 : tie.Need-returns-10
 returns-10 c = search (needs, values)
 
--- src/lib.rt:233:1
 returns-11 : tie.Need-returns-11
 returns-11 c = search (needs, values)
 

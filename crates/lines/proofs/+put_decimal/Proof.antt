@@ -21,7 +21,6 @@ abbrev put-decimal-below : ℕ → In 1 put-decimal-kinds.ps
 put-decimal-below t =
     and 1 put-decimal-kinds.ps (falls 1 put-decimal-kinds.ps _<_ μ-put-decimal t) put-decimal.Pre
 
--- src/lib.rt:52:25
 put-decimal-cast-only : (t : ℕ) → put-decimal-lts.Need-cast-only (
   put-reads.Asked,
   put-reads.Learnt,
@@ -30,7 +29,6 @@ put-decimal-cast-only : (t : ℕ) → put-decimal-lts.Need-cast-only (
 ) (put-decimal-at t) put-decimal.Post
 put-decimal-cast-only t c = search needs
 
--- src/lib.rt:52:20
 put-decimal-add-only : (t : ℕ) → put-decimal-lts.Need-add-only (
   put-reads.Asked,
   put-reads.Learnt,
@@ -39,7 +37,6 @@ put-decimal-add-only : (t : ℕ) → put-decimal-lts.Need-add-only (
 ) (put-decimal-at t) put-decimal.Post
 put-decimal-add-only t c = search needs
 
--- src/lib.rt:53:9
 put-decimal-put-requires : (t : ℕ) → put-decimal-lts.Need-put-requires (
   put-reads.Asked,
   put-reads.Learnt,
@@ -48,7 +45,6 @@ put-decimal-put-requires : (t : ℕ) → put-decimal-lts.Need-put-requires (
 ) (put-decimal-at t) put-decimal.Post
 put-decimal-put-requires t c κs = search needs
 
--- src/lib.rt:53:9
 put-decimal-same-length : (t : ℕ) → put-decimal-lts.Need-same-length (
   put-reads.Asked,
   put-reads.Learnt,
@@ -57,7 +53,6 @@ put-decimal-same-length : (t : ℕ) → put-decimal-lts.Need-same-length (
 ) (put-decimal-at t) put-decimal.Post
 put-decimal-same-length t c = search (needs, digits)
 
--- src/lib.rt:53:9
 put-decimal-returns : (t : ℕ) → put-decimal-lts.Need-returns (
   put-reads.Asked,
   put-reads.Learnt,
@@ -66,7 +61,6 @@ put-decimal-returns : (t : ℕ) → put-decimal-lts.Need-returns (
 ) (put-decimal-at t) put-decimal.Post
 put-decimal-returns t c = search (needs, digits)
 
--- src/lib.rt:56:9
 put-decimal-put-decimal-requires : (t : ℕ) → put-decimal-lts.Need-put-decimal-requires (
   put-reads.Asked,
   put-reads.Learnt,
@@ -75,7 +69,6 @@ put-decimal-put-decimal-requires : (t : ℕ) → put-decimal-lts.Need-put-decima
 ) (put-decimal-at t) put-decimal.Post
 put-decimal-put-decimal-requires t c κs = search (needs, digits)
 
--- src/lib.rt:57:21
 put-decimal-cast-last : (t : ℕ) → put-decimal-lts.Need-cast-last (
   put-reads.Asked,
   put-reads.Learnt,
@@ -84,7 +77,6 @@ put-decimal-cast-last : (t : ℕ) → put-decimal-lts.Need-cast-last (
 ) (put-decimal-at t) put-decimal.Post
 put-decimal-cast-last t c = search needs
 
--- src/lib.rt:57:16
 put-decimal-add-last : (t : ℕ) → put-decimal-lts.Need-add-last (
   put-reads.Asked,
   put-reads.Learnt,
@@ -93,7 +85,6 @@ put-decimal-add-last : (t : ℕ) → put-decimal-lts.Need-add-last (
 ) (put-decimal-at t) put-decimal.Post
 put-decimal-add-last t c = search needs
 
--- src/lib.rt:58:5
 put-decimal-put-requires-2 : (t : ℕ) → put-decimal-lts.Need-put-requires-2 (
   put-reads.Asked,
   put-reads.Learnt,
@@ -102,7 +93,6 @@ put-decimal-put-requires-2 : (t : ℕ) → put-decimal-lts.Need-put-requires-2 (
 ) (put-decimal-at t) put-decimal.Post
 put-decimal-put-requires-2 t c κs = search needs
 
--- src/lib.rt:48:1
 put-decimal-same-length-2 : (t : ℕ) → put-decimal-lts.Need-same-length-2 (
   put-reads.Asked,
   put-reads.Learnt,
@@ -111,7 +101,6 @@ put-decimal-same-length-2 : (t : ℕ) → put-decimal-lts.Need-same-length-2 (
 ) (put-decimal-at t) put-decimal.Post
 put-decimal-same-length-2 t c = search (needs, digits)
 
--- src/lib.rt:48:1
 put-decimal-returns-2 : (t : ℕ) → put-decimal-lts.Need-returns-2 (
   put-reads.Asked,
   put-reads.Learnt,

@@ -2,26 +2,19 @@ use Rattle.lines.proofs.Held.{holdings}
 use borrow.Author.Needs.{needs}
 use Rattle.lines.proofs.of_corners.Statement.{statement}
 use Rattle.lines.proofs.of_corners.Tie as tie
-use Rattle.lines.proofs.of_corners.Reads as reads
-use Rattle.lines.proofs.of_corners.Lts as lts
 
--- src/lib.rt:110:18
 cast-t3 : tie.Need-cast-t3
 cast-t3 c = search needs
 
--- src/lib.rt:110:32
 cast-t4 : tie.Need-cast-t4
 cast-t4 c = search needs
 
--- src/lib.rt:110:46
 cast-t5 : tie.Need-cast-t5
 cast-t5 c = search needs
 
--- src/lib.rt:110:60
 cast-t6 : tie.Need-cast-t6
 cast-t6 c = search needs
 
--- src/lib.rt:106:1
 returns : tie.Need-returns
 returns c = search (needs, holdings)
 

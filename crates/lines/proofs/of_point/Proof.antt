@@ -2,18 +2,13 @@ use Rattle.lines.proofs.Held.{holdings}
 use borrow.Author.Needs.{needs}
 use Rattle.lines.proofs.of_point.Statement.{statement}
 use Rattle.lines.proofs.of_point.Tie as tie
-use Rattle.lines.proofs.of_point.Reads as reads
-use Rattle.lines.proofs.of_point.Lts as lts
 
--- src/lib.rt:101:18
 cast-t2 : tie.Need-cast-t2
 cast-t2 c = search needs
 
--- src/lib.rt:101:34
 cast-t3 : tie.Need-cast-t3
 cast-t3 c = search needs
 
--- src/lib.rt:97:1
 returns : tie.Need-returns
 returns c = search (needs, holdings)
 

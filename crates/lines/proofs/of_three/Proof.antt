@@ -2,10 +2,7 @@ use borrow.Author.Needs.{needs}
 use Rattle.lines.proofs.Held.{holdings}
 use Rattle.lines.proofs.of_three.Statement.{statement}
 use Rattle.lines.proofs.of_three.Tie as tie
-use Rattle.lines.proofs.of_three.Reads as reads
-use Rattle.lines.proofs.of_three.Lts as lts
 
--- src/lib.rt:115:1
 returns : tie.Need-returns
 returns c = search (needs, holdings)
 

@@ -2,32 +2,22 @@ use Rattle.lines.proofs.Lined.{lists}
 use borrow.Author.Needs.{needs}
 use Rattle.lines.proofs.put_fixed.Statement.{statement}
 use Rattle.lines.proofs.put_fixed.Tie as tie
-use Rattle.lines.proofs.put_fixed.Reads as reads
-use Rattle.lines.proofs.put_fixed.Lts as lts
-use Rattle.lines.proofs.numbers_of.Reads as numbers-of-reads
-use Rattle.lines.proofs.put_numbers.Reads as put-numbers-reads
 
--- src/lib.rt:169:9
 numbers-of-requires : tie.Need-numbers-of-requires
 numbers-of-requires c κs = search needs
 
--- src/lib.rt:172:17
 array-share-prefix-values : tie.Need-array-share-prefix-values
 array-share-prefix-values c = search needs
 
--- src/lib.rt:172:17
 slice-aggregate-put-numbers : tie.Need-slice-aggregate-put-numbers
 slice-aggregate-put-numbers c = search (needs, lists)
 
--- src/lib.rt:172:5
 put-numbers-requires : tie.Need-put-numbers-requires
 put-numbers-requires c κs = search needs
 
--- src/lib.rt:166:1
 same-length : tie.Need-same-length
 same-length c = search needs
 
--- src/lib.rt:166:1
 returns : tie.Need-returns
 returns c = search (needs, lists)
 

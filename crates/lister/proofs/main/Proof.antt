@@ -7,52 +7,38 @@ use lib.Seq.{length-take-le}
 use borrow.Author.Needs.{needs}
 use Rattle.lister.proofs.main.Statement.{statement}
 use Rattle.lister.proofs.main.Tie as tie
-use Rattle.lister.proofs.main.Reads as reads
-use Rattle.lister.proofs.main.Lts as lts
-use Rattle.io.proofs.read_full.Reads as read-full-reads
-use Rattle.lister.proofs.list.Reads as list-reads
 
 -- the bytes listed are among those read
 front-long : (m n : ℕ) (xs : List ℕ) → n ≤ length xs → m < n → length (take m xs) ≡ m
 front-long m n xs h l = length-take-le m xs (omega arith)
 
--- src/main.rt:92:41
 slice-aggregate-read-full : tie.Need-slice-aggregate-read-full
 slice-aggregate-read-full c = search needs
 
--- src/main.rt:92:9
 read-full-requires : tie.Need-read-full-requires
 read-full-requires c κs = search needs
 
--- src/main.rt:94:14
 array-share-prefix-input : tie.Need-array-share-prefix-input
 array-share-prefix-input c = search needs
 
--- src/main.rt:94:14
 slice-aggregate-list : tie.Need-slice-aggregate-list
 slice-aggregate-list c = search (needs, front-long)
 
--- src/main.rt:94:9
 list-requires : tie.Need-list-requires
 list-requires c κs = search needs
 
--- src/main.rt:96:14
 array-share-prefix-input-2 : tie.Need-array-share-prefix-input-2
 array-share-prefix-input-2 c = search needs
 
--- src/main.rt:96:14
 slice-aggregate-list-2 : tie.Need-slice-aggregate-list-2
 slice-aggregate-list-2 c = search needs
 
--- src/main.rt:96:9
 list-requires-2 : tie.Need-list-requires-2
 list-requires-2 c κs = search needs
 
--- src/main.rt:90:1
 returns : tie.Need-returns
 returns c = search needs
 
--- src/main.rt:90:1
 returns-2 : tie.Need-returns-2
 returns-2 c = search needs
 

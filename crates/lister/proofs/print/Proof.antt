@@ -2,34 +2,25 @@ use lib.Seq.{length-take-le}
 use borrow.Author.Needs.{needs}
 use Rattle.lister.proofs.print.Statement.{statement}
 use Rattle.lister.proofs.print.Tie as tie
-use Rattle.lister.proofs.print.Reads as reads
-use Rattle.lister.proofs.print.Lts as lts
-use Rattle.io.proofs.write_all.Reads as write-all-reads
 
--- src/main.rt:45:23
 enum-known-written : tie.Need-enum-known-written
 enum-known-written c = search needs
 
--- src/main.rt:47:46
 slice-aggregate-write-all : tie.Need-slice-aggregate-write-all
 slice-aggregate-write-all c = search (needs, length-take-le)
 
--- src/main.rt:47:17
 write-all-requires : tie.Need-write-all-requires
 write-all-requires c κs = search needs
 
 enum-told : tie.Need-enum-told
 enum-told c = search needs
 
--- src/main.rt:43:1
 returns : tie.Need-returns
 returns c = search needs
 
--- src/main.rt:43:1
 returns-2 : tie.Need-returns-2
 returns-2 c = search needs
 
--- src/main.rt:43:1
 returns-3 : tie.Need-returns-3
 returns-3 c = search needs
 

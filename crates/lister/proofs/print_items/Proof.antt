@@ -3,12 +3,6 @@ use mathlib.Core.Path.{_≡_}
 use lib.ListN.{length}
 use Rattle.lister.proofs.print_items.Statement.{statement}
 use Rattle.lister.proofs.print_items.Tie as tie
-use Rattle.lister.proofs.print_items.Reads as reads
-use Rattle.lister.proofs.print_items.Lts as lts
-use Rattle.lister.proofs.behind.Reads as behind-reads
-use Rattle.lister.proofs.print_item.Reads as print-item-reads
-use Rattle.memory.proofs.fresh.Reads as fresh-reads
-use Rattle.stream.proofs.read_item.Reads as read-item-reads
 
 abbrev Inv-loop : tie.InvT-loop
 Inv-loop s list₀ kept₀ start₀ turns₀ list kept start turns = length list ≡ 256
@@ -16,51 +10,39 @@ Inv-loop s list₀ kept₀ start₀ turns₀ list kept start turns = length list
 abbrev μ-loop : tie.MeasureT-loop
 μ-loop s list₀ kept₀ start₀ turns₀ list kept start turns = turns
 
--- src/main.rt:69:9
 fresh-requires : tie.Need-fresh-requires Inv-loop μ-loop
 fresh-requires c κs = search needs
 
--- src/main.rt:72:5
 loop-holds : tie.Need-loop-holds Inv-loop μ-loop
 loop-holds c = search needs
 
--- src/main.rt:74:13
 returns : tie.Need-returns Inv-loop μ-loop
 returns c = search needs
 
--- src/main.rt:76:54
 slice-aggregate-read-item : tie.Need-slice-aggregate-read-item Inv-loop μ-loop
 slice-aggregate-read-item c = search needs
 
--- src/main.rt:76:13
 read-item-requires : tie.Need-read-item-requires Inv-loop μ-loop
 read-item-requires c κs = search needs
 
--- src/main.rt:77:33
 slice-aggregate-print-item : tie.Need-slice-aggregate-print-item Inv-loop μ-loop
 slice-aggregate-print-item c = search needs
 
--- src/main.rt:77:9
 print-item-requires : tie.Need-print-item-requires Inv-loop μ-loop
 print-item-requires c κs = search needs
 
--- src/main.rt:78:13
 behind-requires : tie.Need-behind-requires Inv-loop μ-loop
 behind-requires c κs = search needs
 
--- src/main.rt:81:17
 sub-turns : tie.Need-sub-turns Inv-loop μ-loop
 sub-turns c = search needs
 
--- src/main.rt:72:5
 loop-less : tie.Need-loop-less Inv-loop μ-loop
 loop-less c = search needs
 
--- src/main.rt:72:5
 loop-again : tie.Need-loop-again Inv-loop μ-loop
 loop-again c = search needs
 
--- src/main.rt:67:1
 returns-2 : tie.Need-returns-2 Inv-loop μ-loop
 returns-2 c = search needs
 

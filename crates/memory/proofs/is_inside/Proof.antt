@@ -1,10 +1,7 @@
 -- Both tests, in the definition's order.
-use borrow.Author.Needs.{needs}
 use borrow.Author.Tests.{le-leb, lt-leb}
 use Rattle.memory.proofs.is_inside.Statement.{statement}
 use Rattle.memory.proofs.is_inside.Tie as tie
-use Rattle.memory.proofs.is_inside.Reads as reads
-use Rattle.memory.proofs.is_inside.Lts as lts
 
 returns : tie.Need-returns
 returns c = rw (lt-leb _ _ (c .if1 .taken))

@@ -2,10 +2,7 @@ use mir.Syntax.{w32}
 use Rattle.numbers.proofs.Signs.{sign-is}
 use Rattle.numbers.proofs.is_negative.Statement.{statement}
 use Rattle.numbers.proofs.is_negative.Tie as tie
-use Rattle.numbers.proofs.is_negative.Reads as reads
-use Rattle.numbers.proofs.is_negative.Lts as lts
 
--- src/lib.rt:55:1
 returns : tie.Need-returns
 returns c = sign-is w32 (c .args .v) (c .fits .v)
 

@@ -2,43 +2,31 @@ use Rattle.numbers.proofs.Reading.{lows}
 use borrow.Author.Needs.{needs}
 use Rattle.numbers.proofs.low_byte.Statement.{statement}
 use Rattle.numbers.proofs.low_byte.Tie as tie
-use Rattle.numbers.proofs.low_byte.Reads as reads
-use Rattle.numbers.proofs.low_byte.Lts as lts
-use Rattle.numbers.proofs.signed.Reads as signed-reads
 
--- src/lib.rt:76:15
 mul-mag : tie.Need-mul-mag
 mul-mag c = search needs
 
--- src/lib.rt:76:27
 cast-mag : tie.Need-cast-mag
 cast-mag c = search needs
 
--- src/lib.rt:76:15
 add-mag : tie.Need-add-mag
 add-mag c = search needs
 
--- src/lib.rt:79:41
 signed-requires : tie.Need-signed-requires
 signed-requires c κs = search needs
 
--- src/lib.rt:79:13
 returns : tie.Need-returns
 returns c = search (needs, lows)
 
--- src/lib.rt:81:9
 returns-2 : tie.Need-returns-2
 returns-2 c = search (needs, lows)
 
--- src/lib.rt:84:37
 signed-requires-2 : tie.Need-signed-requires-2
 signed-requires-2 c κs = search needs
 
--- src/lib.rt:84:9
 returns-3 : tie.Need-returns-3
 returns-3 c = search (needs, lows)
 
--- src/lib.rt:72:1
 returns-4 : tie.Need-returns-4
 returns-4 c = search (needs, lows)
 

@@ -3,34 +3,25 @@ use Rattle.numbers.proofs.Signs.{up-fits, back-fits, back-cast, whole-i
 use borrow.Author.Needs.{needs}
 use Rattle.numbers.proofs.magnitude.Statement.{statement}
 use Rattle.numbers.proofs.magnitude.Tie as tie
-use Rattle.numbers.proofs.magnitude.Reads as reads
-use Rattle.numbers.proofs.magnitude.Lts as lts
 
--- src/lib.rt:48:17
 add-n : tie.Need-add-n
 add-n c = up-fits w32 (c .before .args .v) (c .before .fits .v) (c .if1 .taken)
 
--- src/lib.rt:49:17
 sub-m : tie.Need-sub-m
 sub-m c = back-fits w32 (c .before .args .v) (c .before .fits .v) (c .if1 .taken)
 
--- src/lib.rt:50:16
 cast-result : tie.Need-cast-result
 cast-result c = back-cast w32 (c .before .args .v) (c .before .fits .v) (c .if1 .taken)
 
--- src/lib.rt:50:16
 add-result : tie.Need-add-result
 add-result c = rw (whole-is w32 (c .before .args .v) (c .before .fits .v) (c .if1 .taken)) (magnitude-fits w32 (c .before .args .v) (c .before .fits .v))
 
--- src/lib.rt:50:9
 returns : tie.Need-returns
 returns c = whole-is w32 (c .before .args .v) (c .before .fits .v) (c .if1 .taken)
 
--- src/lib.rt:52:5
 cast-result-2 : tie.Need-cast-result-2
 cast-result-2 c = plain-cast w32 (c .before .args .v) (c .before .fits .v) (c .if1 .left)
 
--- src/lib.rt:44:1
 returns-2 : tie.Need-returns-2
 returns-2 c = search needs
 

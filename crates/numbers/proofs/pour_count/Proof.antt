@@ -4,40 +4,28 @@ use Rattle.wire.proofs.Laying.{pours}
 use borrow.Author.Needs.{needs}
 use Rattle.numbers.proofs.pour_count.Statement.{statement}
 use Rattle.numbers.proofs.pour_count.Tie as tie
-use Rattle.numbers.proofs.pour_count.Reads as reads
-use Rattle.numbers.proofs.pour_count.Lts as lts
-use Rattle.numbers.proofs.spell_integer.Reads as spell-integer-reads
-use Rattle.wire.proofs.pour.Reads as pour-reads
 
--- src/lib.rt:257:9
 returns : tie.Need-returns
 returns c = search (tests, pours)
 
--- src/lib.rt:259:15
 cast-mag : tie.Need-cast-mag
 cast-mag c = search needs
 
--- src/lib.rt:260:9
 spell-integer-requires : tie.Need-spell-integer-requires
 spell-integer-requires c κs = search needs
 
--- src/lib.rt:263:22
 array-share-prefix-bytes : tie.Need-array-share-prefix-bytes
 array-share-prefix-bytes c = search needs
 
--- src/lib.rt:263:22
 slice-aggregate-pour : tie.Need-slice-aggregate-pour
 slice-aggregate-pour c = search (needs, length-take-le)
 
--- src/lib.rt:263:5
 pour-requires : tie.Need-pour-requires
 pour-requires c κs = search needs
 
--- src/lib.rt:253:1
 same-length : tie.Need-same-length
 same-length c = search needs
 
--- src/lib.rt:253:1
 returns-2 : tie.Need-returns-2
 returns-2 c = search (tests, pours)
 

@@ -1,5 +1,5 @@
 use native.Mathlib.Omega.{arith}
-use mathlib.Core.Path.{_≡_, _∙_, sym, ap}
+use mathlib.Core.Path.{_∙_, sym, ap}
 use mir.Syntax.{w32}
 use mir.Facts.{toZ-pos}
 use Rattle.numbers.specs.Integers.{signedOf}
@@ -7,22 +7,16 @@ use Rattle.numbers.proofs.Signs.{less-fits, less-is}
 use borrow.Author.Needs.{needs}
 use Rattle.numbers.proofs.signed.Statement.{statement}
 use Rattle.numbers.proofs.signed.Tie as tie
-use Rattle.numbers.proofs.signed.Reads as reads
-use Rattle.numbers.proofs.signed.Lts as lts
 
--- src/lib.rt:36:13
 cast-m : tie.Need-cast-m
 cast-m c = search needs
 
--- src/lib.rt:38:16
 sub-result : tie.Need-sub-result
 sub-result c = less-fits w32 (c .before .args .mag) (omega arith)
 
--- src/lib.rt:38:9
 returns : tie.Need-returns
 returns c = less-is w32 (c .before .args .mag) (omega arith) ∙ ap (signedOf _) (sym (c .if1 .taken))
 
--- src/lib.rt:33:1
 returns-2 : tie.Need-returns-2
 returns-2 c = toZ-pos w32 (omega arith) ∙ ap (signedOf _) (sym (c .if1 .left))
 

@@ -4,40 +4,28 @@ use Rattle.wire.proofs.Laying.{writings}
 use borrow.Author.Needs.{needs}
 use Rattle.numbers.proofs.write_count.Statement.{statement}
 use Rattle.numbers.proofs.write_count.Tie as tie
-use Rattle.numbers.proofs.write_count.Reads as reads
-use Rattle.numbers.proofs.write_count.Lts as lts
-use Rattle.numbers.proofs.spell_integer.Reads as spell-integer-reads
-use Rattle.wire.proofs.send.Reads as send-reads
 
--- src/lib.rt:212:9
 returns : tie.Need-returns
 returns c = search (tests, writings)
 
--- src/lib.rt:214:15
 cast-mag : tie.Need-cast-mag
 cast-mag c = search needs
 
--- src/lib.rt:215:9
 spell-integer-requires : tie.Need-spell-integer-requires
 spell-integer-requires c κs = search needs
 
--- src/lib.rt:218:22
 array-share-prefix-bytes : tie.Need-array-share-prefix-bytes
 array-share-prefix-bytes c = search (tests, writings)
 
--- src/lib.rt:218:22
 slice-aggregate-send : tie.Need-slice-aggregate-send
 slice-aggregate-send c = search (needs, length-take-le)
 
--- src/lib.rt:218:5
 send-requires : tie.Need-send-requires
 send-requires c κs = search needs
 
--- src/lib.rt:208:1
 same-length : tie.Need-same-length
 same-length c = search needs
 
--- src/lib.rt:208:1
 returns-2 : tie.Need-returns-2
 returns-2 c = search (tests, writings)
 

@@ -4,9 +4,6 @@ use Rattle.parameters.specs.Entries.{entriesEnd}
 use Rattle.parameters.proofs.Entering.{ends}
 use Rattle.parameters.proofs.entries_end.Statement.{statement}
 use Rattle.parameters.proofs.entries_end.Tie as tie
-use Rattle.parameters.proofs.entries_end.Reads as reads
-use Rattle.parameters.proofs.entries_end.Lts as lts
-use Rattle.parameters.proofs.read_entry.Reads as read-entry-reads
 
 abbrev Inv-loop : tie.InvT-loop
 Inv-loop kept entry count s at left₀ pos₀ left pos = entriesEnd entry kept left s pos ≡ entriesEnd entry kept count s at
@@ -14,39 +11,30 @@ Inv-loop kept entry count s at left₀ pos₀ left pos = entriesEnd entry kept l
 abbrev μ-loop : tie.MeasureT-loop
 μ-loop kept entry count s at left₀ pos₀ left pos = left
 
--- src/lib.rt:104:5
 loop-holds : tie.Need-loop-holds Inv-loop μ-loop
 loop-holds c = search (needs, ends)
 
--- src/lib.rt:105:15
 read-entry-requires : tie.Need-read-entry-requires Inv-loop μ-loop
 read-entry-requires c κs = search needs
 
--- src/lib.rt:106:40
 enum-known-n : tie.Need-enum-known-n Inv-loop μ-loop
 enum-known-n c = search (needs, ends)
 
--- src/lib.rt:108:24
 sub-left : tie.Need-sub-left Inv-loop μ-loop
 sub-left c = search needs
 
--- src/lib.rt:104:5
 loop-less : tie.Need-loop-less Inv-loop μ-loop
 loop-less c = search needs
 
--- src/lib.rt:104:5
 loop-again : tie.Need-loop-again Inv-loop μ-loop
 loop-again c = search (needs, ends)
 
--- src/lib.rt:110:36
 enum-known-e : tie.Need-enum-known-e Inv-loop μ-loop
 enum-known-e c = search (needs, ends)
 
--- src/lib.rt:111:17
 returns : tie.Need-returns Inv-loop μ-loop
 returns c = search (needs, ends)
 
--- src/lib.rt:99:1
 returns-2 : tie.Need-returns-2 Inv-loop μ-loop
 returns-2 c = search (needs, ends)
 

@@ -3,9 +3,6 @@ use Prim.Native.Nat.{_-_}
 use Rattle.parameters.proofs.Entering.{Filling, fillings}
 use Rattle.parameters.proofs.fill.Statement.{statement}
 use Rattle.parameters.proofs.fill.Tie as tie
-use Rattle.parameters.proofs.fill.Reads as reads
-use Rattle.parameters.proofs.fill.Lts as lts
-use Rattle.parameters.proofs.read_entry.Reads as read-entry-reads
 
 abbrev Inv-loop : tie.InvT-loop
 Inv-loop kept entry count s at list₀ i₀ pos₀ list i pos = Filling entry kept s at count list₀ list i pos
@@ -13,63 +10,48 @@ Inv-loop kept entry count s at list₀ i₀ pos₀ list i pos = Filling entry ke
 abbrev μ-loop : tie.MeasureT-loop
 μ-loop kept entry count s at list₀ i₀ pos₀ list i pos = count - i
 
--- src/lib.rt:143:5
 loop-holds : tie.Need-loop-holds Inv-loop μ-loop
 loop-holds c = search (needs, fillings)
 
--- src/lib.rt:145:13
 same-length : tie.Need-same-length Inv-loop μ-loop
 same-length c = search (needs, fillings)
 
--- src/lib.rt:145:13
 returns : tie.Need-returns Inv-loop μ-loop
 returns c = search (needs, fillings)
 
--- src/lib.rt:147:15
 read-entry-requires : tie.Need-read-entry-requires Inv-loop μ-loop
 read-entry-requires c κs = search needs
 
--- src/lib.rt:148:34
 enum-known-v : tie.Need-enum-known-v Inv-loop μ-loop
 enum-known-v c = search (needs, fillings)
 
--- src/lib.rt:149:17
 mul-v : tie.Need-mul-v Inv-loop μ-loop
 mul-v c = search needs
 
--- src/lib.rt:149:17
 slice-set-from-v : tie.Need-slice-set-from-v Inv-loop μ-loop
 slice-set-from-v c = search needs
 
--- src/lib.rt:151:21
 add-i : tie.Need-add-i Inv-loop μ-loop
 add-i c = search needs
 
--- src/lib.rt:143:5
 loop-less : tie.Need-loop-less Inv-loop μ-loop
 loop-less c = search needs
 
--- src/lib.rt:143:5
 loop-again : tie.Need-loop-again Inv-loop μ-loop
 loop-again c = search (needs, fillings)
 
--- src/lib.rt:154:17
 enum-told : tie.Need-enum-told Inv-loop μ-loop
 enum-told c = search (needs, fillings)
 
--- src/lib.rt:154:17
 same-length-2 : tie.Need-same-length-2 Inv-loop μ-loop
 same-length-2 c = search (needs, fillings)
 
--- src/lib.rt:154:17
 returns-2 : tie.Need-returns-2 Inv-loop μ-loop
 returns-2 c = search (needs, fillings)
 
--- src/lib.rt:138:1
 same-length-3 : tie.Need-same-length-3 Inv-loop μ-loop
 same-length-3 c = search (needs, fillings)
 
--- src/lib.rt:138:1
 returns-3 : tie.Need-returns-3 Inv-loop μ-loop
 returns-3 c = search (needs, fillings)
 

@@ -2,147 +2,103 @@ use Rattle.parameters.proofs.Looks.{of-kind}
 use borrow.Author.Needs.{needs}
 use Rattle.parameters.proofs.look_at.Statement.{statement}
 use Rattle.parameters.proofs.look_at.Tie as tie
-use Rattle.parameters.proofs.look_at.Reads as reads
-use Rattle.parameters.proofs.look_at.Lts as lts
-use Rattle.parameters.proofs.look_corners.Reads as look-corners-reads
-use Rattle.parameters.proofs.look_double.Reads as look-double-reads
-use Rattle.parameters.proofs.look_letters.Reads as look-letters-reads
-use Rattle.parameters.proofs.look_list.Reads as look-list-reads
-use Rattle.parameters.proofs.look_numbered.Reads as look-numbered-reads
-use Rattle.parameters.proofs.look_point.Reads as look-point-reads
-use Rattle.parameters.proofs.look_scale.Reads as look-scale-reads
-use Rattle.parameters.proofs.look_single.Reads as look-single-reads
-use Rattle.parameters.proofs.look_triple.Reads as look-triple-reads
 
--- src/lib.rt:309:28
 enum-told : tie.Need-enum-told
 enum-told c = search needs
 
--- src/lib.rt:309:28
 look-single-requires : tie.Need-look-single-requires
 look-single-requires c κs = search needs
 
--- src/lib.rt:310:30
 enum-told-2 : tie.Need-enum-told-2
 enum-told-2 c = search needs
 
--- src/lib.rt:310:30
 look-double-requires : tie.Need-look-double-requires
 look-double-requires c κs = search needs
 
--- src/lib.rt:311:32
 enum-told-3 : tie.Need-enum-told-3
 enum-told-3 c = search needs
 
--- src/lib.rt:311:32
 look-triple-requires : tie.Need-look-triple-requires
 look-triple-requires c κs = search needs
 
--- src/lib.rt:312:25
 enum-told-4 : tie.Need-enum-told-4
 enum-told-4 c = search needs
 
--- src/lib.rt:312:25
 look-point-requires : tie.Need-look-point-requires
 look-point-requires c κs = search needs
 
--- src/lib.rt:313:28
 enum-told-5 : tie.Need-enum-told-5
 enum-told-5 c = search needs
 
--- src/lib.rt:313:28
 look-corners-requires : tie.Need-look-corners-requires
 look-corners-requires c κs = search needs
 
--- src/lib.rt:314:24
 enum-told-6 : tie.Need-enum-told-6
 enum-told-6 c = search needs
 
--- src/lib.rt:314:24
 look-scale-requires : tie.Need-look-scale-requires
 look-scale-requires c κs = search needs
 
--- src/lib.rt:315:42
 enum-told-7 : tie.Need-enum-told-7
 enum-told-7 c = search needs
 
--- src/lib.rt:315:26
 look-list-requires : tie.Need-look-list-requires
 look-list-requires c κs = search needs
 
--- src/lib.rt:316:42
 enum-told-8 : tie.Need-enum-told-8
 enum-told-8 c = search needs
 
--- src/lib.rt:316:26
 look-list-requires-2 : tie.Need-look-list-requires-2
 look-list-requires-2 c κs = search needs
 
--- src/lib.rt:317:55
 enum-told-9 : tie.Need-enum-told-9
 enum-told-9 c = search needs
 
--- src/lib.rt:317:35
 look-numbered-requires : tie.Need-look-numbered-requires
 look-numbered-requires c κs = search needs
 
--- src/lib.rt:318:56
 enum-told-10 : tie.Need-enum-told-10
 enum-told-10 c = search needs
 
--- src/lib.rt:318:36
 look-numbered-requires-2 : tie.Need-look-numbered-requires-2
 look-numbered-requires-2 c κs = search needs
 
--- src/lib.rt:319:32
 enum-told-11 : tie.Need-enum-told-11
 enum-told-11 c = search needs
 
--- src/lib.rt:319:32
 look-letters-requires : tie.Need-look-letters-requires
 look-letters-requires c κs = search needs
 
--- src/lib.rt:305:1
 returns : tie.Need-returns
 returns c = search (needs, of-kind)
 
--- src/lib.rt:305:1
 returns-2 : tie.Need-returns-2
 returns-2 c = search (needs, of-kind)
 
--- src/lib.rt:305:1
 returns-3 : tie.Need-returns-3
 returns-3 c = search (needs, of-kind)
 
--- src/lib.rt:305:1
 returns-4 : tie.Need-returns-4
 returns-4 c = search (needs, of-kind)
 
--- src/lib.rt:305:1
 returns-5 : tie.Need-returns-5
 returns-5 c = search (needs, of-kind)
 
--- src/lib.rt:305:1
 returns-6 : tie.Need-returns-6
 returns-6 c = search (needs, of-kind)
 
--- src/lib.rt:305:1
 returns-7 : tie.Need-returns-7
 returns-7 c = search (needs, of-kind)
 
--- src/lib.rt:305:1
 returns-8 : tie.Need-returns-8
 returns-8 c = search (needs, of-kind)
 
--- src/lib.rt:305:1
 returns-9 : tie.Need-returns-9
 returns-9 c = search (needs, of-kind)
 
--- src/lib.rt:305:1
 returns-10 : tie.Need-returns-10
 returns-10 c = search (needs, of-kind)
 
--- src/lib.rt:305:1
 returns-11 : tie.Need-returns-11
 returns-11 c = search (needs, of-kind)
 

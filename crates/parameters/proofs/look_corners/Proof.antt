@@ -2,57 +2,40 @@ use Rattle.parameters.proofs.Looks.{fixeds}
 use borrow.Author.Needs.{needs}
 use Rattle.parameters.proofs.look_corners.Statement.{statement}
 use Rattle.parameters.proofs.look_corners.Tie as tie
-use Rattle.parameters.proofs.look_corners.Reads as reads
-use Rattle.parameters.proofs.look_corners.Lts as lts
-use Rattle.memory.proofs.with_point.Reads as with-point-reads
-use Rattle.parameters.proofs.no_run.Reads as no-run-reads
-use Rattle.points.proofs.read_point.Reads as read-point-reads
 
--- src/lib.rt:249:11
 read-point-requires : tie.Need-read-point-requires
 read-point-requires c κs = search needs
 
--- src/lib.rt:250:23
 enum-known-one : tie.Need-enum-known-one
 enum-known-one c = search needs
 
--- src/lib.rt:251:17
 with-point-requires : tie.Need-with-point-requires
 with-point-requires c κs = search needs
 
--- src/lib.rt:252:19
 read-point-requires-2 : tie.Need-read-point-requires-2
 read-point-requires-2 c κs = search needs
 
--- src/lib.rt:253:31
 enum-known-two : tie.Need-enum-known-two
 enum-known-two c = search needs
 
--- src/lib.rt:254:64
 no-run-requires : tie.Need-no-run-requires
 no-run-requires c κs = search needs
 
--- src/lib.rt:254:77
 with-point-requires-2 : tie.Need-with-point-requires-2
 with-point-requires-2 c κs = search needs
 
--- src/lib.rt:256:36
 enum-known-e : tie.Need-enum-known-e
 enum-known-e c = search needs
 
--- src/lib.rt:259:28
 enum-known-e-2 : tie.Need-enum-known-e-2
 enum-known-e-2 c = search needs
 
--- src/lib.rt:246:1
 returns : tie.Need-returns
 returns c = search (needs, fixeds)
 
--- src/lib.rt:246:1
 returns-2 : tie.Need-returns-2
 returns-2 c = search (needs, fixeds)
 
--- src/lib.rt:246:1
 returns-3 : tie.Need-returns-3
 returns-3 c = search (needs, fixeds)
 

@@ -2,49 +2,34 @@ use Rattle.parameters.proofs.Looks.{fixeds}
 use borrow.Author.Needs.{needs}
 use Rattle.parameters.proofs.look_triple.Statement.{statement}
 use Rattle.parameters.proofs.look_triple.Tie as tie
-use Rattle.parameters.proofs.look_triple.Reads as reads
-use Rattle.parameters.proofs.look_triple.Lts as lts
-use Rattle.numbers.proofs.read_integer.Reads as read-integer-reads
-use Rattle.parameters.proofs.no_run.Reads as no-run-reads
-use Rattle.parameters.proofs.pair.Reads as pair-reads
 
--- src/lib.rt:225:11
 pair-requires : tie.Need-pair-requires
 pair-requires c κs = search needs
 
--- src/lib.rt:226:24
 enum-known-a : tie.Need-enum-known-a
 enum-known-a c = search needs
 
--- src/lib.rt:226:42
 read-integer-requires : tie.Need-read-integer-requires
 read-integer-requires c κs = search needs
 
--- src/lib.rt:227:34
 enum-known-d : tie.Need-enum-known-d
 enum-known-d c = search needs
 
--- src/lib.rt:227:87
 no-run-requires : tie.Need-no-run-requires
 no-run-requires c κs = search needs
 
--- src/lib.rt:228:36
 enum-known-e : tie.Need-enum-known-e
 enum-known-e c = search needs
 
--- src/lib.rt:230:27
 enum-known-e-2 : tie.Need-enum-known-e-2
 enum-known-e-2 c = search needs
 
--- src/lib.rt:222:1
 returns : tie.Need-returns
 returns c = search (needs, fixeds)
 
--- src/lib.rt:222:1
 returns-2 : tie.Need-returns-2
 returns-2 c = search (needs, fixeds)
 
--- src/lib.rt:222:1
 returns-3 : tie.Need-returns-3
 returns-3 c = search (needs, fixeds)
 

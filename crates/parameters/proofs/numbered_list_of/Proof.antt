@@ -2,22 +2,16 @@ use Rattle.parameters.proofs.Looks.{lists}
 use borrow.Author.Needs.{needs}
 use Rattle.parameters.proofs.numbered_list_of.Statement.{statement}
 use Rattle.parameters.proofs.numbered_list_of.Tie as tie
-use Rattle.parameters.proofs.numbered_list_of.Reads as reads
-use Rattle.parameters.proofs.numbered_list_of.Lts as lts
 
--- src/lib.rt:276:29
 enum-told : tie.Need-enum-told
 enum-told c = search needs
 
--- src/lib.rt:277:30
 enum-told-2 : tie.Need-enum-told-2
 enum-told-2 c = search needs
 
--- src/lib.rt:272:1
 returns : tie.Need-returns
 returns c = search (needs, lists)
 
--- src/lib.rt:272:1
 returns-2 : tie.Need-returns-2
 returns-2 c = search (needs, lists)
 

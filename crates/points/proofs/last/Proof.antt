@@ -3,43 +3,31 @@ use Rattle.points.proofs.Stepping.{kinds}
 use borrow.Author.Needs.{needs}
 use Rattle.points.proofs.last.Statement.{statement}
 use Rattle.points.proofs.last.Tie as tie
-use Rattle.points.proofs.last.Reads as reads
-use Rattle.points.proofs.last.Lts as lts
-use Rattle.points.proofs.ends.Reads as ends-reads
-use Rattle.wire.proofs.take.Reads as take-reads
 
--- src/lib.rt:116:11
 take-requires : tie.Need-take-requires
 take-requires c κs = search needs
 
--- src/lib.rt:117:24
 enum-known-v : tie.Need-enum-known-v
 enum-known-v c = search needs
 
--- src/lib.rt:119:17
 returns : tie.Need-returns
 unfolding lastAt
 returns c = search (needs, kinds)
 
--- src/lib.rt:122:17
 ends-requires : tie.Need-ends-requires
 ends-requires c κs = search needs
 
--- src/lib.rt:122:17
 returns-2 : tie.Need-returns-2
 unfolding lastAt
 returns-2 c = search (needs, kinds)
 
--- src/lib.rt:126:26
 enum-known-e : tie.Need-enum-known-e
 enum-known-e c = search needs
 
--- src/lib.rt:113:1
 returns-3 : tie.Need-returns-3
 unfolding lastAt
 returns-3 c = search (needs, kinds)
 
--- src/lib.rt:113:1
 returns-4 : tie.Need-returns-4
 unfolding lastAt
 returns-4 c = search (needs, kinds)

@@ -2,14 +2,10 @@ use borrow.Author.Needs.{needs}
 use Rattle.points.proofs.Masks.{masks}
 use Rattle.points.proofs.middle.Statement.{statement}
 use Rattle.points.proofs.middle.Tie as tie
-use Rattle.points.proofs.middle.Reads as reads
-use Rattle.points.proofs.middle.Lts as lts
 
--- src/lib.rt:52:5
 cast-result : tie.Need-cast-result
 cast-result c = search (needs, masks)
 
--- src/lib.rt:49:1
 returns : tie.Need-returns
 returns c = search (needs, masks)
 

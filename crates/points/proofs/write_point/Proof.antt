@@ -5,59 +5,40 @@ use Rattle.points.proofs.Stepping.{tested-first, tested-second}
 use borrow.Author.Needs.{needs}
 use Rattle.points.proofs.write_point.Statement.{statement}
 use Rattle.points.proofs.write_point.Tie as tie
-use Rattle.points.proofs.write_point.Reads as reads
-use Rattle.points.proofs.write_point.Lts as lts
-use Rattle.memory.proofs.is_inside.Reads as is-inside-reads
-use Rattle.points.proofs.both.Reads as both-reads
-use Rattle.points.proofs.bytes_of.Reads as bytes-of-reads
-use Rattle.points.proofs.spell.Reads as spell-reads
-use Rattle.wire.proofs.send.Reads as send-reads
 
--- src/lib.rt:273:13
 is-inside-requires : tie.Need-is-inside-requires
 is-inside-requires c κs = search needs
 
--- src/lib.rt:273:44
 is-inside-requires-2 : tie.Need-is-inside-requires-2
 is-inside-requires-2 c κs = search needs
 
--- src/lib.rt:273:8
 both-requires : tie.Need-both-requires
 both-requires c κs = search needs
 
--- src/lib.rt:274:23
 bytes-of-requires : tie.Need-bytes-of-requires
 bytes-of-requires c κs = search (needs, tested-first, tested-second)
 
--- src/lib.rt:274:45
 bytes-of-requires-2 : tie.Need-bytes-of-requires-2
 bytes-of-requires-2 c κs = search (needs, tested-first, tested-second)
 
--- src/lib.rt:274:13
 spell-requires : tie.Need-spell-requires
 spell-requires c κs = search needs
 
--- src/lib.rt:277:33
 array-share-prefix-bytes : tie.Need-array-share-prefix-bytes
 array-share-prefix-bytes c = search needs
 
--- src/lib.rt:277:33
 slice-aggregate-send : tie.Need-slice-aggregate-send
 slice-aggregate-send c = search (needs, length-take-le)
 
--- src/lib.rt:277:9
 send-requires : tie.Need-send-requires
 send-requires c κs = search needs
 
--- src/lib.rt:277:9
 same-length : tie.Need-same-length
 same-length c = search needs
 
--- src/lib.rt:277:9
 returns : tie.Need-returns
 returns c = search (needs, writings, points)
 
--- src/lib.rt:269:1
 returns-2 : tie.Need-returns-2
 returns-2 c = search (needs, writings, points)
 

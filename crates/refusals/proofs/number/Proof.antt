@@ -2,142 +2,106 @@ use borrow.Author.Needs.{needs}
 use Rattle.refusals.proofs.Numbers.{numbered}
 use Rattle.refusals.proofs.number.Statement.{statement}
 use Rattle.refusals.proofs.number.Tie as tie
-use Rattle.refusals.proofs.number.Reads as reads
-use Rattle.refusals.proofs.number.Lts as lts
 
--- src/lib.rt:47:30
 enum-told : tie.Need-enum-told
 enum-told c = search needs
 
--- src/lib.rt:48:36
 enum-told-2 : tie.Need-enum-told-2
 enum-told-2 c = search needs
 
--- src/lib.rt:49:36
 enum-told-3 : tie.Need-enum-told-3
 enum-told-3 c = search needs
 
--- src/lib.rt:50:36
 enum-told-4 : tie.Need-enum-told-4
 enum-told-4 c = search needs
 
--- src/lib.rt:51:34
 enum-told-5 : tie.Need-enum-told-5
 enum-told-5 c = search needs
 
--- src/lib.rt:52:31
 enum-told-6 : tie.Need-enum-told-6
 enum-told-6 c = search needs
 
--- src/lib.rt:53:30
 enum-told-7 : tie.Need-enum-told-7
 enum-told-7 c = search needs
 
--- src/lib.rt:54:30
 enum-told-8 : tie.Need-enum-told-8
 enum-told-8 c = search needs
 
--- src/lib.rt:55:32
 enum-told-9 : tie.Need-enum-told-9
 enum-told-9 c = search needs
 
--- src/lib.rt:56:38
 enum-told-10 : tie.Need-enum-told-10
 enum-told-10 c = search needs
 
--- src/lib.rt:57:33
 enum-told-11 : tie.Need-enum-told-11
 enum-told-11 c = search needs
 
--- src/lib.rt:58:36
 enum-told-12 : tie.Need-enum-told-12
 enum-told-12 c = search needs
 
--- src/lib.rt:59:35
 enum-told-13 : tie.Need-enum-told-13
 enum-told-13 c = search needs
 
--- src/lib.rt:60:33
 enum-told-14 : tie.Need-enum-told-14
 enum-told-14 c = search needs
 
--- src/lib.rt:61:29
 enum-told-15 : tie.Need-enum-told-15
 enum-told-15 c = search needs
 
--- src/lib.rt:62:35
 enum-told-16 : tie.Need-enum-told-16
 enum-told-16 c = search needs
 
--- src/lib.rt:63:33
 enum-told-17 : tie.Need-enum-told-17
 enum-told-17 c = search needs
 
--- src/lib.rt:43:1
 returns : tie.Need-returns
 returns c = search (needs, numbered)
 
--- src/lib.rt:43:1
 returns-2 : tie.Need-returns-2
 returns-2 c = search (needs, numbered)
 
--- src/lib.rt:43:1
 returns-3 : tie.Need-returns-3
 returns-3 c = search (needs, numbered)
 
--- src/lib.rt:43:1
 returns-4 : tie.Need-returns-4
 returns-4 c = search (needs, numbered)
 
--- src/lib.rt:43:1
 returns-5 : tie.Need-returns-5
 returns-5 c = search (needs, numbered)
 
--- src/lib.rt:43:1
 returns-6 : tie.Need-returns-6
 returns-6 c = search (needs, numbered)
 
--- src/lib.rt:43:1
 returns-7 : tie.Need-returns-7
 returns-7 c = search (needs, numbered)
 
--- src/lib.rt:43:1
 returns-8 : tie.Need-returns-8
 returns-8 c = search (needs, numbered)
 
--- src/lib.rt:43:1
 returns-9 : tie.Need-returns-9
 returns-9 c = search (needs, numbered)
 
--- src/lib.rt:43:1
 returns-10 : tie.Need-returns-10
 returns-10 c = search (needs, numbered)
 
--- src/lib.rt:43:1
 returns-11 : tie.Need-returns-11
 returns-11 c = search (needs, numbered)
 
--- src/lib.rt:43:1
 returns-12 : tie.Need-returns-12
 returns-12 c = search (needs, numbered)
 
--- src/lib.rt:43:1
 returns-13 : tie.Need-returns-13
 returns-13 c = search (needs, numbered)
 
--- src/lib.rt:43:1
 returns-14 : tie.Need-returns-14
 returns-14 c = search (needs, numbered)
 
--- src/lib.rt:43:1
 returns-15 : tie.Need-returns-15
 returns-15 c = search (needs, numbered)
 
--- src/lib.rt:43:1
 returns-16 : tie.Need-returns-16
 returns-16 c = search (needs, numbered)
 
--- src/lib.rt:43:1
 returns-17 : tie.Need-returns-17
 returns-17 c = search (needs, numbered)
 

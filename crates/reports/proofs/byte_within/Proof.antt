@@ -4,33 +4,25 @@ use Rattle.refusals.proofs.Rules.{tests}
 use borrow.Author.Needs.{needs}
 use Rattle.reports.proofs.byte_within.Statement.{statement}
 use Rattle.reports.proofs.byte_within.Tie as tie
-use Rattle.reports.proofs.byte_within.Reads as reads
-use Rattle.reports.proofs.byte_within.Lts as lts
 
--- src/lib.rt:41:9
 returns : tie.Need-returns
 unfolding within byteOf
 returns c = search tests
 
--- src/lib.rt:43:13
 shared-slice-read-b : tie.Need-shared-slice-read-b
 shared-slice-read-b c = search needs
 
--- src/lib.rt:45:9
 returns-2 : tie.Need-returns-2
 unfolding within byteOf
 returns-2 c = search tests
 
--- src/lib.rt:48:9
 returns-3 : tie.Need-returns-3
 unfolding within byteOf
 returns-3 c = search tests
 
--- src/lib.rt:50:16
 add-next : tie.Need-add-next
 add-next c = search needs
 
--- src/lib.rt:37:1
 returns-4 : tie.Need-returns-4
 unfolding within byteOf
 returns-4 c = search tests

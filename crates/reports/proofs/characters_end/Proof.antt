@@ -4,9 +4,6 @@ use Rattle.reports.specs.Reading.{charactersEnd}
 use Rattle.reports.proofs.Stepping.{runs}
 use Rattle.reports.proofs.characters_end.Statement.{statement}
 use Rattle.reports.proofs.characters_end.Tie as tie
-use Rattle.reports.proofs.characters_end.Reads as reads
-use Rattle.reports.proofs.characters_end.Lts as lts
-use Rattle.reports.proofs.byte_within.Reads as byte-within-reads
 
 abbrev Inv-loop : tie.InvT-loop
 Inv-loop s at count left₀ pos₀ left pos = charactersEnd left s pos ≡ charactersEnd count s at
@@ -14,39 +11,30 @@ Inv-loop s at count left₀ pos₀ left pos = charactersEnd left s pos ≡ chara
 abbrev μ-loop : tie.MeasureT-loop
 μ-loop s at count left₀ pos₀ left pos = left
 
--- src/lib.rt:100:5
 loop-holds : tie.Need-loop-holds Inv-loop μ-loop
 loop-holds c = search (needs, runs)
 
--- src/lib.rt:101:15
 byte-within-requires : tie.Need-byte-within-requires Inv-loop μ-loop
 byte-within-requires c κs = search needs
 
--- src/lib.rt:102:34
 enum-known-n : tie.Need-enum-known-n Inv-loop μ-loop
 enum-known-n c = search (needs, runs)
 
--- src/lib.rt:104:24
 sub-left : tie.Need-sub-left Inv-loop μ-loop
 sub-left c = search needs
 
--- src/lib.rt:100:5
 loop-less : tie.Need-loop-less Inv-loop μ-loop
 loop-less c = search needs
 
--- src/lib.rt:100:5
 loop-again : tie.Need-loop-again Inv-loop μ-loop
 loop-again c = search (needs, runs)
 
--- src/lib.rt:106:30
 enum-known-e : tie.Need-enum-known-e Inv-loop μ-loop
 enum-known-e c = search (needs, runs)
 
--- src/lib.rt:107:17
 returns : tie.Need-returns Inv-loop μ-loop
 returns c = search (needs, runs)
 
--- src/lib.rt:95:1
 returns-2 : tie.Need-returns-2 Inv-loop μ-loop
 returns-2 c = search (needs, runs)
 

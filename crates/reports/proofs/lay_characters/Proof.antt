@@ -4,9 +4,6 @@ use lib.ListN.{length}
 use Rattle.reports.proofs.Filling.{Emptying, emptyings}
 use Rattle.reports.proofs.lay_characters.Statement.{statement}
 use Rattle.reports.proofs.lay_characters.Tie as tie
-use Rattle.reports.proofs.lay_characters.Reads as reads
-use Rattle.reports.proofs.lay_characters.Lts as lts
-use Rattle.characters.proofs.byte_of.Reads as byte-of-reads
 
 abbrev Inv-loop : tie.InvT-loop
 Inv-loop list out₀ at i₀ out i = Emptying list out₀ out at i
@@ -14,47 +11,36 @@ Inv-loop list out₀ at i₀ out i = Emptying list out₀ out at i
 abbrev μ-loop : tie.MeasureT-loop
 μ-loop list out₀ at i₀ out i = length list - i
 
--- src/lib.rt:175:5
 loop-holds : tie.Need-loop-holds Inv-loop μ-loop
 loop-holds c = search (needs, emptyings)
 
--- src/lib.rt:176:18
 add-to : tie.Need-add-to Inv-loop μ-loop
 add-to c = search needs
 
--- src/lib.rt:177:39
 mul-byte-of : tie.Need-mul-byte-of Inv-loop μ-loop
 mul-byte-of c = search needs
 
--- src/lib.rt:177:39
 shared-slice-copy-out-byte-of : tie.Need-shared-slice-copy-out-byte-of Inv-loop μ-loop
 shared-slice-copy-out-byte-of c = search needs
 
--- src/lib.rt:177:19
 byte-of-requires : tie.Need-byte-of-requires Inv-loop μ-loop
 byte-of-requires c κs = search needs
 
--- src/lib.rt:177:9
 slice-write-out : tie.Need-slice-write-out Inv-loop μ-loop
 slice-write-out c = search needs
 
--- src/lib.rt:178:13
 add-i : tie.Need-add-i Inv-loop μ-loop
 add-i c = search needs
 
--- src/lib.rt:175:5
 loop-less : tie.Need-loop-less Inv-loop μ-loop
 loop-less c = search needs
 
--- src/lib.rt:175:5
 loop-again : tie.Need-loop-again Inv-loop μ-loop
 loop-again c = search (needs, emptyings)
 
--- src/lib.rt:170:1
 same-length : tie.Need-same-length Inv-loop μ-loop
 same-length c = search (needs, emptyings)
 
--- src/lib.rt:170:1
 returns : tie.Need-returns Inv-loop μ-loop
 returns c = search (needs, emptyings)
 

@@ -4,8 +4,6 @@ use lib.ListN.{length}
 use Rattle.stream.proofs.Reading.{Passing, passings}
 use Rattle.stream.proofs.next_escape.Statement.{statement}
 use Rattle.stream.proofs.next_escape.Tie as tie
-use Rattle.stream.proofs.next_escape.Reads as reads
-use Rattle.stream.proofs.next_escape.Lts as lts
 
 abbrev Inv-loop : tie.InvT-loop
 Inv-loop s at i₀ i = Passing s at i
@@ -13,31 +11,24 @@ Inv-loop s at i₀ i = Passing s at i
 abbrev μ-loop : tie.MeasureT-loop
 μ-loop s at i₀ i = length s - i
 
--- src/lib.rt:28:5
 loop-holds : tie.Need-loop-holds Inv-loop μ-loop
 loop-holds c = search (needs, passings)
 
--- src/lib.rt:29:12
 shared-slice-read-if1 : tie.Need-shared-slice-read-if1 Inv-loop μ-loop
 shared-slice-read-if1 c = search needs
 
--- src/lib.rt:30:13
 returns : tie.Need-returns Inv-loop μ-loop
 returns c = search (needs, passings)
 
--- src/lib.rt:32:13
 add-i : tie.Need-add-i Inv-loop μ-loop
 add-i c = search needs
 
--- src/lib.rt:28:5
 loop-less : tie.Need-loop-less Inv-loop μ-loop
 loop-less c = search needs
 
--- src/lib.rt:28:5
 loop-again : tie.Need-loop-again Inv-loop μ-loop
 loop-again c = search (needs, passings)
 
--- src/lib.rt:24:1
 returns-2 : tie.Need-returns-2 Inv-loop μ-loop
 returns-2 c = search (needs, passings)
 

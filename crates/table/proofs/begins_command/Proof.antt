@@ -2,40 +2,31 @@ use Rattle.table.specs.Table.{begins}
 use Rattle.table.proofs.Letters.{letters}
 use Rattle.table.proofs.begins_command.Statement.{statement}
 use Rattle.table.proofs.begins_command.Tie as tie
-use Rattle.table.proofs.begins_command.Reads as reads
-use Rattle.table.proofs.begins_command.Lts as lts
 
--- src/lib.rt:26:1
 returns : tie.Need-returns
 unfolding begins
 returns c = search letters
 
--- src/lib.rt:26:1
 returns-2 : tie.Need-returns-2
 unfolding begins
 returns-2 c = search letters
 
--- src/lib.rt:26:1
 returns-3 : tie.Need-returns-3
 unfolding begins
 returns-3 c = search letters
 
--- src/lib.rt:26:1
 returns-4 : tie.Need-returns-4
 unfolding begins
 returns-4 c = search letters
 
--- src/lib.rt:26:1
 returns-5 : tie.Need-returns-5
 unfolding begins
 returns-5 c = search letters
 
--- src/lib.rt:26:1
 returns-6 : tie.Need-returns-6
 unfolding begins
 returns-6 c = search letters
 
--- src/lib.rt:26:1
 returns-7 : tie.Need-returns-7
 unfolding begins
 returns-7 c = search letters

@@ -2,15 +2,11 @@ use Rattle.table.specs.Table.{kindOf}
 use Rattle.table.proofs.Letters.{letters}
 use Rattle.table.proofs.of_i.Statement.{statement}
 use Rattle.table.proofs.of_i.Tie as tie
-use Rattle.table.proofs.of_i.Reads as reads
-use Rattle.table.proofs.of_i.Lts as lts
 
--- src/lib.rt:100:1
 returns : tie.Need-returns
 unfolding kindOf
 returns c = search letters
 
--- src/lib.rt:100:1
 returns-2 : tie.Need-returns-2
 unfolding kindOf
 returns-2 c = search letters

@@ -2,20 +2,15 @@ use Rattle.table.specs.Table.{kindOf}
 use Rattle.table.proofs.Letters.{letters}
 use Rattle.table.proofs.of_n.Statement.{statement}
 use Rattle.table.proofs.of_n.Tie as tie
-use Rattle.table.proofs.of_n.Reads as reads
-use Rattle.table.proofs.of_n.Lts as lts
 
--- src/lib.rt:81:1
 returns : tie.Need-returns
 unfolding kindOf
 returns c = search letters
 
--- src/lib.rt:81:1
 returns-2 : tie.Need-returns-2
 unfolding kindOf
 returns-2 c = search letters
 
--- src/lib.rt:81:1
 returns-3 : tie.Need-returns-3
 unfolding kindOf
 returns-3 c = search letters

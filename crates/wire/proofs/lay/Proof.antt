@@ -4,8 +4,6 @@ use lib.ListN.{length}
 use Rattle.wire.proofs.Laying.{Laying, layings}
 use Rattle.wire.proofs.lay.Statement.{statement}
 use Rattle.wire.proofs.lay.Tie as tie
-use Rattle.wire.proofs.lay.Reads as reads
-use Rattle.wire.proofs.lay.Lts as lts
 
 abbrev Inv-loop : tie.InvT-loop
 Inv-loop w out₀ at room size i₀ out i = Laying w out₀ out at i
@@ -13,51 +11,39 @@ Inv-loop w out₀ at room size i₀ out i = Laying w out₀ out at i
 abbrev μ-loop : tie.MeasureT-loop
 μ-loop w out₀ at room size i₀ out i = length w - i
 
--- src/lib.rt:73:9
 returns : tie.Need-returns Inv-loop μ-loop
 returns c = search (needs, layings)
 
--- src/lib.rt:76:9
 returns-2 : tie.Need-returns-2 Inv-loop μ-loop
 returns-2 c = search (needs, layings)
 
--- src/lib.rt:79:5
 loop-holds : tie.Need-loop-holds Inv-loop μ-loop
 loop-holds c = search (needs, layings)
 
--- src/lib.rt:80:18
 add-to : tie.Need-add-to Inv-loop μ-loop
 add-to c = search (needs, layings)
 
--- src/lib.rt:81:19
 shared-slice-read-out : tie.Need-shared-slice-read-out Inv-loop μ-loop
 shared-slice-read-out c = search (needs, layings)
 
--- src/lib.rt:81:9
 slice-write-out : tie.Need-slice-write-out Inv-loop μ-loop
 slice-write-out c = search (needs, layings)
 
--- src/lib.rt:82:13
 add-i : tie.Need-add-i Inv-loop μ-loop
 add-i c = search (needs, layings)
 
--- src/lib.rt:79:5
 loop-less : tie.Need-loop-less Inv-loop μ-loop
 loop-less c = search (needs, layings)
 
--- src/lib.rt:79:5
 loop-again : tie.Need-loop-again Inv-loop μ-loop
 loop-again c = search (needs, layings)
 
--- src/lib.rt:84:16
 add-next : tie.Need-add-next Inv-loop μ-loop
 add-next c = search (needs, layings)
 
--- src/lib.rt:67:1
 same-length : tie.Need-same-length Inv-loop μ-loop
 same-length c = search (needs, layings)
 
--- src/lib.rt:67:1
 returns-3 : tie.Need-returns-3 Inv-loop μ-loop
 returns-3 c = search (needs, layings)
 

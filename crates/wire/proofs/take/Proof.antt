@@ -3,43 +3,32 @@ use Rattle.refusals.proofs.Rules.{tests}
 use borrow.Author.Needs.{needs}
 use Rattle.wire.proofs.take.Statement.{statement}
 use Rattle.wire.proofs.take.Tie as tie
-use Rattle.wire.proofs.take.Reads as reads
-use Rattle.wire.proofs.take.Lts as lts
-use Rattle.wire.proofs.pair.Reads as pair-reads
 
--- src/lib.rt:50:9
 returns : tie.Need-returns
 unfolding byteOf byteAt
 returns c = search tests
 
--- src/lib.rt:52:13
 shared-slice-read-b : tie.Need-shared-slice-read-b
 shared-slice-read-b c = search needs
 
--- src/lib.rt:54:9
 pair-requires : tie.Need-pair-requires
 pair-requires c κs = search needs
 
--- src/lib.rt:54:9
 returns-2 : tie.Need-returns-2
 unfolding byteOf byteAt
 returns-2 c = search tests
 
--- src/lib.rt:57:9
 returns-3 : tie.Need-returns-3
 unfolding byteOf byteAt
 returns-3 c = search tests
 
--- src/lib.rt:60:9
 returns-4 : tie.Need-returns-4
 unfolding byteOf byteAt
 returns-4 c = search tests
 
--- src/lib.rt:62:16
 add-next : tie.Need-add-next
 add-next c = search needs
 
--- src/lib.rt:46:1
 returns-5 : tie.Need-returns-5
 unfolding byteOf byteAt
 returns-5 c = search tests
