@@ -6,7 +6,7 @@ use mathlib.Core.Bool.{Bool, true, false}
 use mathlib.Core.List.{List, [], _∷_}
 use mathlib.Core.Logic.{_⊎_, ⊎-elim}
 use native.Mathlib.Omega.{arith}
-use borrow.Author.Tests.{lt-ltb, le-ltb, eqb-false}
+use borrow.Author.Tests.{lt-ltb, le-ltb, eqb-true, eqb-false}
 use lib.Dec.{eqb}
 use lib.ListN.{length, getD, drop, length-drop}
 use Rattle.memory.specs.declared.Remembered.{Remembered}
@@ -15,16 +15,16 @@ use Rattle.refusals.specs.Answers.{Answer, done, refused, pick}
 use Rattle.refusals.proofs.Cases.{by-pick}
 use Rattle.commands.specs.Reading.{Meaning, commandAt}
 use Rattle.laws.proofs.Shortest.{command-shown}
-use Rattle.laws.proofs.Places.{command-refused}
+use Rattle.laws.proofs.Places.{command-refused, after-inside}
 use Rattle.stream.specs.Items.{Itemed, nothing, text, command, trouble, unread, passed, passedFrom, asItem, commandItem, itemAt}
 
--- where the item that starts at start ends; of what is no item nothing is said
+-- where the item that starts at start ends, and that the point it hands on is inside; what makes no item is 7
 unfoldable pub Ends : List ℕ → ℕ → Itemed Meaning → Type 0
 Ends s start nothing = ⊥
 Ends s start (text b n) = (start < n) × (n ≤ length s)
-Ends s start (command m) = (start < m .next) × (m .next ≤ length s)
-Ends s start (trouble e p n k) = (start < n) × (n ≤ length s)
-Ends s start (unread e p) = Unit {0}
+Ends s start (command m) = ((start < m .next) × (m .next ≤ length s)) × (inside (m .kept .point) ≡ true)
+Ends s start (trouble e p n k) = ((start < n) × (n ≤ length s)) × (inside (k .point) ≡ true)
+Ends s start (unread e p) = e ≡ 7
 
 passed-most : (l : List ℕ) → passed l ≤ length l
 passed-most [] = omega arith
@@ -39,13 +39,15 @@ passed-within s p h = let q = passed-most (drop p s) in (omega arith, omega (ari
 module _ (kept : Remembered) (s : List ℕ) (start room : ℕ) (j : inside (kept .point) ≡ true) (h : start < length s) where
   answer-ends : (a : Answer Meaning) → commandAt kept s start room ≡ a → Ends s start (asItem kept s a)
   unfolding Ends
-  answer-ends (done m) e = let f = command-shown kept s start room e in (f .forward, f .within)
+  answer-ends (done m) e =
+      let f = command-shown kept s start room e in
+      ((f .forward, f .within), ap (λ (k : Remembered). inside (k .point)) (f .kept-is) ∙ after-inside kept (m .values) j (f .values-ok))
   answer-ends (refused e p) q =
       by-pick (Ends s start) (eqb e 7) _ _
-      (λ t. tt)
+      (λ t. eqb-true e 7 t)
       (λ t. ⊎-elim
       (λ (z : e ≡ 7). absurd (eqb-false e 7 t z))
-      (λ (w : (start + 1 ≤ p) × (p ≤ length s)). let y = passed-within s p (w .1) in (omega (arith, w .0, y .0), y .1))
+      (λ (w : (start + 1 ≤ p) × (p ≤ length s)). let y = passed-within s p (w .1) in ((omega (arith, w .0, y .0), y .1), j))
       (command-refused kept s start room j h q))
 
   -- reading moves forward and stays within

@@ -236,7 +236,7 @@ module _ (kept : Remembered) (s : List ℕ) where
 
 -- ---- all parameters
 
-after-inside : (kept : Remembered) (vs : List Value) → inside (kept .point) ≡ true → areValues vs ≡ true → inside (afterValues kept vs .point) ≡ true
+pub after-inside : (kept : Remembered) (vs : List Value) → inside (kept .point) ≡ true → areValues vs ≡ true → inside (afterValues kept vs .point) ≡ true
 unfolding afterValues every
 after-inside kept [] i h = i
 after-inside kept (v ∷ vs) i h =
