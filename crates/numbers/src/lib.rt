@@ -257,8 +257,8 @@ pub fn pour_count(kept: Remembered, n: usize, out: &mut [u8], at: usize) -> usiz
         return 0;
     }
     let mag = n as u32;
-    let w = spell_integer(mag, false);
-    let bytes = w.bytes;
-    let len = w.len;
-    wire::pour(kept, &bytes[..len], out, at)
+    let spelling = spell_integer(mag, false);
+    let bytes = spelling.bytes;
+    let size = spelling.len;
+    wire::pour(kept, &bytes[..size], out, at)
 }
