@@ -1,13 +1,13 @@
 -- Items partition the bytes: an item ends behind its start and no farther than the end of the bytes, and where it ends the next one starts.
 -- So from start 0 every byte belongs to exactly one item, and a loop over items ends.
 use Prim.Native.Nat.{ℕ, zero, suc, _+_, _≤_, _<_}
-use mathlib.Core.Path.{_≡_, refl, sym, _∙_, ap}
+use mathlib.Core.Path.{_≡_, refl, sym, _∙_, ap, subst}
 use mathlib.Core.Bool.{Bool, true, false}
 use mathlib.Core.List.{List, [], _∷_}
 use mathlib.Core.Logic.{_⊎_, ⊎-elim}
 use native.Mathlib.Omega.{arith}
-use borrow.Author.Tests.{lt-ltb, le-ltb, eqb-true, eqb-false}
-use lib.Dec.{eqb}
+use borrow.Author.Tests.{lt-ltb, le-ltb, ltb-true, ltb-false, eqb-true, eqb-false}
+use lib.Dec.{ltb, eqb}
 use lib.ListN.{length, getD, drop, length-drop}
 use Rattle.memory.specs.declared.Remembered.{Remembered}
 use Rattle.memory.specs.Memory.{inside}
@@ -58,3 +58,43 @@ module _ (kept : Remembered) (s : List ℕ) (start room : ℕ) (j : inside (kept
       (by-pick (Ends s start) (eqb (getD s start 0) 27) _ _
       (λ t. answer-ends (commandAt kept s start room) refl)
       (λ t. (omega arith, omega arith)))
+
+-- an item, and the rest behind it: where none is left the bytes are at their end, and only 7 holds reading up
+unfoldable pub Onward : (Remembered → ℕ → Type 0) → List ℕ → Remembered → ℕ → Itemed Meaning → Type 0
+Onward rest s kept start nothing = start ≡ length s
+Onward rest s kept start (text b n) = ((start < n) × (n ≤ length s)) × rest kept n
+Onward rest s kept start (command m) = ((start < m .next) × (m .next ≤ length s)) × rest (m .kept) (m .next)
+Onward rest s kept start (trouble e p n k) = ((start < n) × (n ≤ length s)) × rest k n
+Onward rest s kept start (unread e p) = e ≡ 7
+
+-- the bytes from start on are cut into at most k items, each starting where the one before it ends, and the last ending with the bytes
+unfoldable pub Parted : List ℕ → ℕ → ℕ → Remembered → ℕ → Type 0
+Parted s room zero kept start = start ≡ length s
+Parted s room (suc k) kept start = Onward (Parted s room k) s kept start (itemAt kept s start room)
+
+onward : (s : List ℕ) (room k : ℕ) (kept : Remembered) (start : ℕ) → inside (kept .point) ≡ true → length s ≤ start + suc k → ((m : Remembered) (n : ℕ) → inside (m .point) ≡ true → length s ≤ n + k → n ≤ length s → Parted s room k m n) → (i : Itemed Meaning) → Ends s start i → Onward (Parted s room k) s kept start i
+unfolding Onward Ends
+onward s room k kept start j h rest nothing e = absurd e
+onward s room k kept start j h rest (text b n) e = (e, rest kept n j (omega (arith, e .0, h)) (e .1))
+onward s room k kept start j h rest (command m) e = (e .0, rest (m .kept) (m .next) (e .1) (omega (arith, e .0 .0, h)) (e .0 .1))
+onward s room k kept start j h rest (trouble x p n m) e = (e .0, rest m n (e .1) (omega (arith, e .0 .0, h)) (e .0 .1))
+onward s room k kept start j h rest (unread x p) e = e
+
+none-left : (kept : Remembered) (s : List ℕ) (start room : ℕ) → inside (kept .point) ≡ true → start ≡ length s → itemAt kept s start room ≡ nothing
+unfolding itemAt
+none-left kept s start room j h = rw (le-ltb (length s) start (omega (arith, h)), j, le-ltb start (length s) (omega (arith, h))) refl
+
+parted : (s : List ℕ) (room k : ℕ) (kept : Remembered) (start : ℕ) → inside (kept .point) ≡ true → length s ≤ start + k → start ≤ length s → Parted s room k kept start
+unfolding Parted Onward
+parted s room zero kept start j h l = omega (arith, h, l)
+parted s room (suc k) kept start j h l =
+    by-pick (λ (b : Bool). Parted s room (suc k) kept start) (ltb start (length s)) true false
+    (λ t. onward s room k kept start j h (λ m n. parted s room k m n) (itemAt kept s start room) (item-ends kept s start room j (ltb-true start (length s) t)))
+    (λ t.
+    let m = ltb-false start (length s) t in
+    let z : start ≡ length s = omega (arith, m, l) in
+    subst (Onward (Parted s room k) s kept start) (sym (none-left kept s start room j z)) z)
+
+-- from start 0, every byte belongs to exactly one item, and a loop over items ends
+pub items-part : (kept : Remembered) (s : List ℕ) (room : ℕ) → inside (kept .point) ≡ true → Parted s room (length s) kept 0
+items-part kept s room j = parted s room (length s) kept 0 j (omega arith) (omega arith)
