@@ -28,6 +28,10 @@ abbrev pub pick : {A : Type 0} → Bool → A → A → A
 pick true a b = a
 pick false a b = b
 
+-- the refusal e where the test fails, and where it does not, what comes next in the paper's order; 0 is no refusal
+abbrev pub demand : Bool → ℕ → ℕ → ℕ
+demand ok e next = pick ok next e
+
 -- all of a list pass the test
 unfoldable pub every : {A : Type 0} → (A → Bool) → List A → Bool
 every ok [] = true

@@ -1,0 +1,3 @@
+pub mod Marks
+pub mod Writes
+pub mod Standing
