@@ -1,14 +1,13 @@
 -- "that many bytes 32..127", as entries of a lent list of numbers.
 use Prim.Native.Nat.{ℕ}
-use mathlib.Core.Bool.{Bool, false, _&&_}
+use mathlib.Core.Bool.{Bool}
 use mathlib.Core.List.{List, map}
-use lib.Dec.{leb}
-use lib.IntN.{ℤ, pos, negsuc, natAbs}
+use lib.IntN.{ℤ, pos, natAbs}
 use Rattle.refusals.specs.Answers.{every}
+use Rattle.ranges.specs.Ranges.{within}
 
 abbrev pub isCharacter : ℤ → Bool
-isCharacter (pos n) = leb 32 n && leb n 127
-isCharacter (negsuc n) = false
+isCharacter v = within 32 127 v
 
 abbrev pub areCharacters : List ℤ → Bool
 areCharacters vs = every isCharacter vs

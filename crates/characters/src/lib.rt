@@ -7,29 +7,13 @@ ghost use Rattle.characters.specs.Characters.{isCharacter, areCharacters
 pub fn is_character(v: i32) -> bool
     ensures { λ r. ⌜ r ≡ isCharacter v ⌝ }
 {
-    if numbers::is_negative(v) {
-        return false;
-    }
-    let m = numbers::magnitude(v);
-    if m < 32 {
-        return false;
-    }
-    m <= 127
+    ranges::is_within(32, 127, v)
 }
 
 pub fn are_characters(list: &[i32]) -> bool
     ensures { λ r. ⌜ r ≡ areCharacters (now (list .entry)) ⌝ }
 {
-    let mut i = 0;
-    while i < list.len() {
-        let v = list[i];
-        if is_character(v) {
-            i = i + 1;
-        } else {
-            return false;
-        }
-    }
-    true
+    ranges::are_within(32, 127, list)
 }
 
 // The byte of an entry; an entry that is no byte loses what does not fit.

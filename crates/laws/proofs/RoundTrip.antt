@@ -24,7 +24,7 @@ use Rattle.points.specs.Reading.{pointAt}
 use Rattle.points.specs.Writing.{spellPoint}
 use Rattle.points.proofs.RoundTrip.{point-back}
 use Rattle.characters.specs.Characters.{isCharacter}
-use Rattle.characters.proofs.Entries.{character-range}
+use Rattle.ranges.proofs.Entries.{within-range}
 use Rattle.table.specs.declared.Kind.{Kind}
 use Rattle.table.specs.declared.Kind.the-variants as K
 use Rattle.table.specs.declared.Found.{Found}
@@ -58,7 +58,7 @@ entry-back AnInteger kept s at v ok st = integer-back kept v ok s at st
 entry-back ACharacter kept s at v ok st = from (sent-taken kept s at (natAbs v ∷ []) ((range .0, range .1 .0), tt) st)
   where
     range : (32 ≤ natAbs v) × ((natAbs v ≤ 127) × (pos (natAbs v) ≡ v))
-    range = character-range v ok
+    range = within-range 32 127 v ok
 
     from : Feeds kept s at (natAbs v ∷ []) (at + length (sent kept (natAbs v ∷ []))) → Reads v (at + length (sent kept (natAbs v ∷ []))) (entryAt ACharacter kept s at)
     from (p, (m, (e, z))) = rw e (range .1 .1, z)

@@ -1,1 +1,5 @@
 pub mod Laying
+pub mod Going
+pub mod Bits
+pub mod Looking
+pub mod Answering

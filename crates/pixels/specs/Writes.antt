@@ -6,13 +6,16 @@ use mathlib.Core.Bool.{Bool, true, false, not, _&&_}
 use mathlib.Core.List.{List, [], _∷_, _++_, map}
 use lib.ListN.{length, replicate}
 use lib.Dec.{leb, eqb}
-use lib.IntN.{ℤ, pos, negsuc, natAbs}
+use lib.IntN.{ℤ, natAbs}
 use Rattle.refusals.specs.Refusals.{numberOf}
 use Rattle.refusals.specs.Answers.{pick, demand, every}
+use Rattle.ranges.specs.Ranges.{within}
 use Rattle.beam.specs.declared.Beam.{Beam}
 use Rattle.beam.specs.Validity.{isSize, isValid}
 use Rattle.pixels.specs.declared.Drawing.{Drawing}
 use Rattle.pixels.specs.declared.Drawing.the-variants.{Drawn, NotDrawn}
+use Rattle.pixels.specs.declared.Verdict.{Verdict}
+use Rattle.pixels.specs.declared.Verdict.the-variants.{Allowed, Refused}
 use Rattle.pixels.specs.Marks.{Mark, ink, laid, moved}
 
 -- ---- the marks of a write
@@ -59,10 +62,6 @@ runTotal bits (k ∷ ks) = k / 2 ^ bits + runTotal bits ks
 unfoldable pub isSurface : (w h size : ℕ) → Bool
 isSurface w h size = isSize w h && eqb size (h * w)
 
-unfoldable pub within : (least most : ℕ) → ℤ → Bool
-within least most (pos n) = leb least n && leb n most
-within least most (negsuc n) = false
-
 abbrev pub isNumber : ℤ → Bool
 isNumber v = within 0 32767 v
 
@@ -94,6 +93,11 @@ rasterRefusal w h size beam n chs = writeRefusal w h size beam (demand (rasterNu
 
 unfoldable pub runRefusal : (w h size : ℕ) → Beam → List ℤ → ℕ
 runRefusal w h size beam codes = writeRefusal w h size beam (demand (runNumbers codes) 8 0)
+
+-- what a verdict says: 0 or the refusal's number
+unfoldable pub verdictOf : Verdict → ℕ
+verdictOf Allowed = 0
+verdictOf (Refused e) = numberOf e
 
 -- ---- "A write is done whole or not at all and returns its number of pixels."
 

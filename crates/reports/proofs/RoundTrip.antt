@@ -14,7 +14,7 @@ use Rattle.refusals.proofs.Cases.{and-left, and-right, zero-one}
 use Rattle.wire.proofs.Feeds.{Stands, stands-between, stands-left, stands-right}
 use Rattle.numbers.specs.Integers.{signedOf, isNegative, lowOf}
 use Rattle.numbers.specs.Counts.{countIn}
-use Rattle.characters.proofs.Entries.{character-range}
+use Rattle.ranges.proofs.Entries.{within-range}
 use Rattle.characters.specs.Characters.{isCharacter, areCharacters, bytesOf}
 use Rattle.reports.specs.Reading.{within, reportValue, reportFrom, reportAt, charactersEnd, stringAt, entriesAt}
 use Rattle.reports.specs.Writing.{spellReportOf, spellReport, isReport, spellString, isString}
@@ -72,7 +72,7 @@ unfolding endsAfter
 run-back [] s at ok st = ap done (omega arith)
 run-back (v ∷ vs) s at ok st =
     let c = head-of v vs ok in
-    let r = character-range v (c .0) in
+    let r = within-range 32 127 v (c .0) in
     let w = within-is 32 127 s at (natAbs v) (omega (arith, st .room)) (byte-at st 0 at (omega arith) (omega arith)) (r .0) (r .1 .0) in
     let z : at + 1 + length vs ≡ at + length (v ∷ vs) = omega arith in
     rw w (run-back vs s (at + 1) (c .1) (stands-right s at (natAbs v ∷ []) (bytesOf vs) st) ∙ ap done z)
@@ -87,7 +87,7 @@ entries-same : (vs : List ℤ) → areCharacters vs ≡ true → map pos (bytesO
 entries-same [] ok = refl
 entries-same (v ∷ vs) ok =
     let c = head-of v vs ok in
-    let r = character-range v (c .0) in
+    let r = within-range 32 127 v (c .0) in
     ap (λ (x : ℤ). x ∷ map pos (bytesOf vs)) (r .1 .1) ∙ ap (λ (l : List ℤ). v ∷ l) (entries-same vs (c .1))
 
 pub entries-back : (s : List ℕ) (at : ℕ) (vs : List ℤ) → areCharacters vs ≡ true → Stands s at (bytesOf vs) → entriesAt (length vs) s at ≡ vs

@@ -3,15 +3,15 @@ use native.Mathlib.Omega.{arith}
 use borrow.Author.Needs.{needs}
 use lib.ListN.{length}
 use Rattle.refusals.proofs.Many.{Checking, checkings}
-use Rattle.characters.specs.Characters.{isCharacter}
-use Rattle.characters.proofs.are_characters.Statement.{statement}
-use Rattle.characters.proofs.are_characters.Tie as tie
+use Rattle.ranges.specs.Ranges.{within}
+use Rattle.ranges.proofs.are_within.Statement.{statement}
+use Rattle.ranges.proofs.are_within.Tie as tie
 
 abbrev Inv-loop : tie.InvT-loop
-Inv-loop list i₀ i = Checking isCharacter list i
+Inv-loop least most list i₀ i = Checking (within least most) list i
 
 abbrev μ-loop : tie.MeasureT-loop
-μ-loop list i₀ i = length list - i
+μ-loop least most list i₀ i = length list - i
 
 loop-holds : tie.Need-loop-holds Inv-loop μ-loop
 loop-holds c = search (needs, checkings)
@@ -22,8 +22,8 @@ mul-v c = omega arith
 shared-slice-copy-out-v : tie.Need-shared-slice-copy-out-v Inv-loop μ-loop
 shared-slice-copy-out-v c = omega arith
 
-is-character-requires : tie.Need-is-character-requires Inv-loop μ-loop
-is-character-requires c κs = search needs
+is-within-requires : tie.Need-is-within-requires Inv-loop μ-loop
+is-within-requires c κs = search needs
 
 add-i : tie.Need-add-i Inv-loop μ-loop
 add-i c = omega arith
@@ -40,8 +40,8 @@ returns c = search (needs, checkings)
 returns-2 : tie.Need-returns-2 Inv-loop μ-loop
 returns-2 c = search (needs, checkings)
 
-pub are-characters-spec : {M : Type 1} → statement M
-are-characters-spec =
+pub are-within-spec : {M : Type 1} → statement M
+are-within-spec =
     tie.close
     (tie.spec
     Inv-loop
@@ -49,7 +49,7 @@ are-characters-spec =
     loop-holds
     mul-v
     shared-slice-copy-out-v
-    is-character-requires
+    is-within-requires
     add-i
     loop-less
     loop-again

@@ -1,0 +1,122 @@
+-- A loop that lays marks: what is left from here ends where the whole ends.
+use Prim.Native.Nat.{ℕ, zero, suc, _+_, _-_, _*_, _/_, _%_, _^_, _≤_, _<_, min}
+use mathlib.Core.Path.{_≡_, refl, sym, _∙_, ap}
+use mathlib.Core.List.{List, [], _∷_, _++_}
+use native.Mathlib.Nat.{not-suc-le-zero, mul-suc, mul-le-mul-left, min-le-right, mul-div-le, le-trans}
+use native.Mathlib.Numerals.{add-one}
+use native.Mathlib.Omega.{arith}
+use lib.ListN.{length, getD, set, drop, drop-of-length-le}
+use lib.Seq.{drop-cons}
+use Rattle.beam.specs.declared.Beam.{Beam}
+use Rattle.beam.specs.Settings.{stepped}
+use Rattle.pixels.specs.Marks.{Mark, ink, place, laid, moved}
+use Rattle.pixels.specs.Writes.{perCharacter, pixels, characterMarks, leftAfter, rasterMarks, run, runMarks, runTotal}
+use Rattle.pixels.specs.Standing.{Ready}
+use Rattle.pixels.proofs.Laying.{laid-append, laid-length, moved-append, moved-valid, moved-bits}
+
+-- the marks ms that are left, from the record and the surface of here, come to the same end as all marks from those of the start
+pub record Going (w h : ℕ) (ms₀ : List Mark) (beam₀ : Beam) (s₀ : List ℕ) (ms : List Mark) (beam : Beam) (s : List ℕ) : Type 0 where
+  pub ready : Ready w h beam (length s)
+  pub long : length s ≡ length s₀
+  pub depth : beam .bits ≡ beam₀ .bits
+  pub surface : laid w h ms beam s ≡ laid w h ms₀ beam₀ s₀
+  pub end : moved ms beam ≡ moved ms₀ beam₀
+
+pub going : {w h : ℕ} (ms : List Mark) (beam : Beam) (s : List ℕ) → Ready w h beam (length s) → Going w h ms beam s ms beam s
+going ms beam s r = record { ready = r; long = refl; depth = refl; surface = refl; end = refl }
+
+module _ {w h : ℕ} {ms₀ : List Mark} {beam₀ : Beam} {s₀ : List ℕ} {ms : List Mark} {beam : Beam} {s : List ℕ} (g : Going w h ms₀ beam₀ s₀ ms beam s) where
+  -- the marks xs are laid, and ys are left
+  pub going-on : (xs ys : List Mark) {next : Beam} {t : List ℕ} → ms ≡ xs ++ ys → next ≡ moved xs beam → t ≡ laid w h xs beam s → Going w h ms₀ beam₀ s₀ ys next t
+  going-on xs ys e en et =
+      let l = ap length et ∙ laid-length w h xs beam s in
+      record {
+        ready = record { valid = rw en (moved-valid xs (g .ready .valid)); whole = l ∙ g .ready .whole; narrow = g .ready .narrow; short = g .ready .short };
+        long = l ∙ g .long;
+        depth = ap (λ (b : Beam). b .bits) en ∙ moved-bits xs beam ∙ g .depth;
+        surface = rw (en, et, ← laid-append w h xs ys beam s, ← e) (g .surface);
+        end = rw (en, ← moved-append xs ys beam, ← e) (g .end);
+      }
+
+  -- one colour is laid
+  pub going-lay : (c : ℕ) (ys : List Mark) {next : Beam} {t : List ℕ} → ms ≡ ink c ∷ ys → next ≡ stepped beam → t ≡ set s (place w h beam) c → Going w h ms₀ beam₀ s₀ ys next t
+  unfolding laid moved
+  going-lay c ys e en et = going-on (ink c ∷ []) ys e en et
+
+  -- none are left
+  pub going-done : ms ≡ [] → (beam ≡ moved ms₀ beam₀) × (s ≡ laid w h ms₀ beam₀ s₀)
+  unfolding laid moved
+  going-done e = (ap (λ (l : List Mark). moved l beam) (sym e) ∙ g .end, ap (λ (l : List Mark). laid w h l beam s) (sym e) ∙ g .surface)
+
+-- ---- runs and pixels, by how many are left
+
+one-less : (n : ℕ) → suc n - 1 ≡ n
+one-less n = omega arith
+
+pub run-more : (c n : ℕ) → 0 < n → run c n ≡ ink c ∷ run c (n - 1)
+run-more c zero l = absurd (not-suc-le-zero l)
+run-more c (suc n) l = rw one-less
+
+pub run-none : (c n : ℕ) → n ≤ 0 → run c n ≡ []
+run-none c zero l = refl
+run-none c (suc n) l = absurd (not-suc-le-zero l)
+
+pub pixels-more : (bits n sh v : ℕ) → 0 < n → pixels bits n sh v ≡ ink (v / 2 ^ (sh - bits) % 2 ^ bits) ∷ pixels bits (n - 1) (sh - bits) v
+unfolding pixels
+pixels-more bits zero sh v l = absurd (not-suc-le-zero l)
+pixels-more bits (suc n) sh v l = rw one-less
+
+pub pixels-none : (bits n sh v : ℕ) → n ≤ 0 → pixels bits n sh v ≡ []
+unfolding pixels
+pixels-none bits zero sh v l = refl
+pixels-none bits (suc n) sh v l = absurd (not-suc-le-zero l)
+
+-- the bits of the pixels left
+pub bits-less : (b n : ℕ) → 0 < n → b * n ≡ b * (n - 1) + b
+bits-less b zero l = absurd (not-suc-le-zero l)
+bits-less b (suc n) l = rw (one-less, mul-suc)
+
+-- a character has room for its pixels
+pub room : (b n : ℕ) → b * min n (perCharacter b) ≤ 6
+room b n = le-trans (mul-le-mul-left b (min-le-right n (6 / b))) (mul-div-le 6 b)
+
+-- ---- lists, by the entry that is next
+
+pub raster-more : (beam : Beam) (n : ℕ) (l : List ℕ) (i : ℕ) → i < length l
+    → rasterMarks beam n (drop i l) ≡ characterMarks beam n (getD l i 0) ++ rasterMarks (moved (characterMarks beam n (getD l i 0)) beam) (leftAfter beam n (getD l i 0)) (drop (i + 1) l)
+unfolding rasterMarks
+raster-more beam n l i h = rw (drop-cons l i 0 h, add-one)
+
+pub raster-none : (beam : Beam) (n : ℕ) (l : List ℕ) (i : ℕ) → length l ≤ i → rasterMarks beam n (drop i l) ≡ []
+unfolding rasterMarks
+raster-none beam n l i h = rw (drop-of-length-le l h)
+
+pub runs-more : (b : ℕ) (l : List ℕ) (i : ℕ) → i < length l → runMarks b (drop i l) ≡ run (getD l i 0 % 2 ^ b) (getD l i 0 / 2 ^ b) ++ runMarks b (drop (i + 1) l)
+unfolding runMarks
+runs-more b l i h = rw (drop-cons l i 0 h, add-one)
+
+pub runs-none : (b : ℕ) (l : List ℕ) (i : ℕ) → length l ≤ i → runMarks b (drop i l) ≡ []
+unfolding runMarks
+runs-none b l i h = rw (drop-of-length-le l h)
+
+pub total-more : (b : ℕ) (l : List ℕ) (i : ℕ) → i < length l → runTotal b (drop i l) ≡ getD l i 0 / 2 ^ b + runTotal b (drop (i + 1) l)
+unfolding runTotal
+total-more b l i h = rw (drop-cons l i 0 h, add-one)
+
+pub total-none : (b : ℕ) (l : List ℕ) (i : ℕ) → length l ≤ i → runTotal b (drop i l) ≡ 0
+unfolding runTotal
+total-none b l i h = rw (drop-of-length-le l h)
+
+-- ---- one character
+
+module _ (beam : Beam) (n ch : ℕ) {m : ℕ} (em : m ≡ min n (6 / beam .bits)) where
+  pub character-room : beam .bits * m ≤ 6
+  character-room = rw em (room (beam .bits) n)
+
+  pub character-moved : {next : Beam} → next ≡ moved (pixels (beam .bits) m 6 (ch - 32)) beam → next ≡ moved (characterMarks beam n ch) beam
+  unfolding characterMarks
+  character-moved j = rw em at j
+
+  pub character-laid : (w h : ℕ) (s : List ℕ) {t : List ℕ} → t ≡ laid w h (pixels (beam .bits) m 6 (ch - 32)) beam s → t ≡ laid w h (characterMarks beam n ch) beam s
+  unfolding characterMarks
+  character-laid w h s j = rw em at j

@@ -1,0 +1,23 @@
+use Rattle.pixels.proofs.Looking.{entry-at}
+use borrow.Author.Needs.{needs}
+use Rattle.pixels.proofs.entry.Statement.{statement}
+use Rattle.pixels.proofs.entry.Tie as tie
+
+mul-v : tie.Need-mul-v
+mul-v c = search needs
+
+shared-slice-copy-out-v : tie.Need-shared-slice-copy-out-v
+shared-slice-copy-out-v c = search needs
+
+magnitude-requires : tie.Need-magnitude-requires
+magnitude-requires c κs = search needs
+
+cast-result : tie.Need-cast-result
+cast-result c = search needs
+
+returns : tie.Need-returns
+returns c = search (needs, entry-at)
+
+pub entry-spec : {M : Type 1} → statement M
+entry-spec =
+    tie.close (tie.spec mul-v shared-slice-copy-out-v magnitude-requires cast-result returns)

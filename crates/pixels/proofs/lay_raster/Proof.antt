@@ -1,0 +1,88 @@
+use Prim.Native.Nat.{ℕ, _+_, _-_, _≤_, _<_}
+use mathlib.Core.Path.{_≡_, refl}
+use mathlib.Core.List.{map, _++_}
+use native.Mathlib.Omega.{arith}
+use borrow.Author.Needs.{needs}
+use lib.ListN.{length, getD, drop, length-map}
+use lib.IntN.{natAbs}
+use Rattle.pixels.specs.Marks.{laid, moved}
+use Rattle.pixels.specs.Writes.{characterMarks, leftAfter, rasterMarks}
+use Rattle.pixels.proofs.Going.{Going, going, going-on, going-done, raster-more, raster-none}
+use Rattle.pixels.proofs.Looking.{entry-within}
+use Rattle.pixels.proofs.lay_raster.Statement.{statement}
+use Rattle.pixels.proofs.lay_raster.Tie as tie
+
+abbrev Inv-loop : tie.InvT-loop
+Inv-loop surface₀ w h n list next₀ left₀ i₀ surface next left i = (i ≤ length list) × Going w h (rasterMarks next₀ n (map natAbs list)) next₀ surface₀ (rasterMarks next left (drop i (map natAbs list))) next surface
+
+abbrev μ-loop : tie.MeasureT-loop
+μ-loop surface₀ w h n list next₀ left₀ i₀ surface next left i = length list - i
+
+loop-holds : tie.Need-loop-holds Inv-loop μ-loop
+loop-holds c = (omega arith, going _ _ _ (c .before .pre .0))
+
+entry-requires : tie.Need-entry-requires Inv-loop μ-loop
+entry-requires c κs = search needs
+
+left-after-requires : tie.Need-left-after-requires Inv-loop μ-loop
+left-after-requires c κs = omega arith
+
+lay-character-requires : tie.Need-lay-character-requires Inv-loop μ-loop
+lay-character-requires c κs =
+    let in-loop = c .before .before .before in
+    let at-loop = in-loop .before in
+    let start = at-loop .before .before in
+    let b : at-loop .loop .next .bits ≡ start .args .beam .bits = at-loop .loop .inv .1 .depth in
+    let e = entry-within 32 95 (start .args .list .now) (at-loop .loop .i) (start .pre .1 .1) (in-loop .loop-test .taken) in
+    (at-loop .loop .inv .1 .ready, (omega arith, (omega arith, omega (arith, e, c .before .before .entry .ensures))))
+
+add-i : tie.Need-add-i Inv-loop μ-loop
+add-i c = omega arith
+
+loop-less : tie.Need-loop-less Inv-loop μ-loop
+loop-less c = omega arith
+
+loop-again : tie.Need-loop-again Inv-loop μ-loop
+loop-again c =
+    let after-entry = c .before .before .before .before .before in
+    let at-loop = after-entry .before .before in
+    let a = at-loop .before .before .args in
+    let b = at-loop .loop .next in
+    let n = at-loop .loop .left in
+    let i = at-loop .loop .i in
+    let l = map natAbs (a .list .now) in
+    let k = after-entry .entry .result in
+    let il : i < length l = omega (arith, length-map (a .list .now) natAbs) in
+    let e : k ≡ getD l i 0 = after-entry .entry .ensures in
+    let m = c .before .before .lay-character .ensures in
+    let left : c .before .before .before .before .left-after .result ≡ leftAfter b n k = c .before .before .before .before .left-after .ensures in
+    let xs = characterMarks b n k in
+    let ys = rasterMarks (moved xs b) (leftAfter b n k) (drop (i + 1) l) in
+    let d : rasterMarks b n (drop i l) ≡ xs ++ ys = rw e (raster-more b n l i il) in
+    (omega arith, rw (left, m .0) (going-on (at-loop .loop .inv .1) xs ys d refl (m .1)))
+
+same-length : tie.Need-same-length Inv-loop μ-loop
+same-length c = c .before .loop .inv .1 .long
+
+returns : tie.Need-returns Inv-loop μ-loop
+returns c =
+    let a = c .before .before .before .args in
+    let l = map natAbs (a .list .now) in
+    let n : length l ≤ c .before .loop .i = omega (arith, length-map (a .list .now) natAbs) in
+    going-done (c .before .loop .inv .1) (raster-none (c .before .loop .next) (c .before .loop .left) l (c .before .loop .i) n)
+
+pub lay-raster-spec : {M : Type 1} → statement M
+lay-raster-spec =
+    tie.close
+    (tie.spec
+    Inv-loop
+    μ-loop
+    loop-holds
+    entry-requires
+    left-after-requires
+    lay-character-requires
+    add-i
+    loop-less
+    loop-again
+    same-length
+    returns)

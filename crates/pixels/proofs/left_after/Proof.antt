@@ -1,0 +1,19 @@
+use Rattle.pixels.proofs.Looking.{left-so}
+use borrow.Author.Needs.{needs}
+use Rattle.pixels.proofs.left_after.Statement.{statement}
+use Rattle.pixels.proofs.left_after.Tie as tie
+
+div-per : tie.Need-div-per
+div-per c = search needs
+
+least-requires : tie.Need-least-requires
+least-requires c κs = search needs
+
+sub-result : tie.Need-sub-result
+sub-result c = search needs
+
+returns : tie.Need-returns
+returns c = search (needs, left-so)
+
+pub left-after-spec : {M : Type 1} → statement M
+left-after-spec = tie.close (tie.spec div-per least-requires sub-result returns)
