@@ -3,3 +3,4 @@ pub mod Going
 pub mod Bits
 pub mod Looking
 pub mod Answering
+pub mod Coinciding

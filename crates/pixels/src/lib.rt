@@ -279,7 +279,7 @@ pub fn draw_raster(
     ensures { λ r. ⌜ (drawingOf r ≡ drawRaster w h beam n (now (list .entry)) (length (now (surface .entry)))) × (now (surface .exit) ≡ rasterSurface w h beam n (now (list .entry)) (now (surface .entry))) ⌝ }
 {
     match raster_verdict(w, h, surface.len(), beam, n, list) {
-        Verdict::Refused(e) => Drawing::NotDrawn(e, beam),
+        Verdict::Refused(refusal) => Drawing::NotDrawn(refusal, beam),
         Verdict::Allowed => {
             let count = numbers::magnitude(n) as usize;
             let after = lay_raster(surface, w, h, beam, count, list);
@@ -296,9 +296,9 @@ pub fn draw_runs(surface: &mut [u8], w: usize, h: usize, beam: Beam, list: &[i32
     match run_verdict(w, h, surface.len(), beam, list) {
         Verdict::Refused(e) => Drawing::NotDrawn(e, beam),
         Verdict::Allowed => {
-            let count = run_total(bits, list);
+            let total = run_total(bits, list);
             let after = lay_runs(surface, w, h, beam, list);
-            Drawing::Drawn(count, after)
+            Drawing::Drawn(total, after)
         }
     }
 }

@@ -9,6 +9,9 @@ use Rattle.refusals.specs.Answers.{number}
 use Rattle.wire.specs.Taking.{byteAt, pairAt}
 use Rattle.numbers.specs.Integers.{spell, spellOf, highsOf, integerAt, integerFrom}
 use Rattle.points.specs.Writing.{spellPoint, spellBytes}
+use Rattle.beam.specs.Settings.{freshBeam, withBits, stepped}
+use Rattle.pixels.specs.Marks.{moved, colours}
+use Rattle.pixels.specs.Writes.{pixels, characterMarks, leftAfter, rasterMarks, runMarks}
 
 pub record Row : Type 0 where
   pub given : List ℕ
@@ -27,6 +30,14 @@ point last this bytes = record { given = spellPoint last this; paper = bytes }
 abbrev at : ℕ → ℕ → Point
 at x y = record { x = x; y = y }
 
+-- the colours that raster characters name at three bits, n of them
+abbrev raster : (n : ℕ) (characters colours : List ℕ) → Row
+raster n chs cs = record { given = colours (rasterMarks (withBits 3 (freshBeam 1 1)) n chs); paper = cs }
+
+-- the colours that a run code names at three bits
+abbrev runs : (code : ℕ) → List ℕ → Row
+runs code cs = record { given = colours (runMarks 3 (code ∷ [])); paper = cs }
+
 abbrev pub sheet : List Row
 sheet =
     integer (pos 0) (48 ∷ [])
@@ -40,6 +51,8 @@ sheet =
     ∷ point (at 0 0) (at 1 0) (97 ∷ 96 ∷ 64 ∷ [])
     ∷ point (at 0 0) (at 4095 3071) (55 ∷ 111 ∷ 127 ∷ 63 ∷ 95 ∷ [])
     ∷ point (at 4095 3071) (at 4095 3071) (95 ∷ [])
+    ∷ raster 4 (42 ∷ 60 ∷ []) (1 ∷ 2 ∷ 3 ∷ 4 ∷ [])
+    ∷ runs 21 (5 ∷ 5 ∷ [])
     ∷ []
 
 abbrev given-of : Row → List ℕ
@@ -50,5 +63,5 @@ paper-of r = r .paper
 
 -- the one claim
 pub all-as-set : map given-of sheet ≡ map paper-of sheet
-unfolding spellOf highsOf integerFrom byteAt pairAt spellBytes
+unfolding spellOf highsOf integerFrom byteAt pairAt spellBytes rasterMarks characterMarks leftAfter pixels runMarks moved stepped colours
 all-as-set = refl

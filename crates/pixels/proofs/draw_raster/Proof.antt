@@ -6,8 +6,8 @@ use Rattle.pixels.proofs.draw_raster.Tie as tie
 raster-verdict-requires : tie.Need-raster-verdict-requires
 raster-verdict-requires c κs = search needs
 
-enum-known-e : tie.Need-enum-known-e
-enum-known-e c = search needs
+enum-known-refusal : tie.Need-enum-known-refusal
+enum-known-refusal c = search needs
 
 enum-told : tie.Need-enum-told
 enum-told c = search needs
@@ -35,7 +35,7 @@ draw-raster-spec =
     tie.close
     (tie.spec
     raster-verdict-requires
-    enum-known-e
+    enum-known-refusal
     enum-told
     magnitude-requires
     cast-count
