@@ -1,0 +1,30 @@
+-- The two parts of what the step by value gives, by its answer.
+use Prim.Native.Nat.{ℕ}
+use mathlib.Core.Path.{_≡_, sym, _∙_, ap}
+use Rattle.refusals.specs.declared.Refusal.{Refusal}
+use Rattle.refusals.specs.Refusals.{numberOf}
+use Rattle.beam.specs.declared.Beam.{Beam}
+use Rattle.beam.specs.declared.Setting.{Setting}
+use Rattle.beam.specs.declared.Setting.the-variants.{Set, NotSet}
+use Rattle.beam.specs.Settings.{settingOf, makeStep}
+
+module _ (w h : ℕ) (beam : Beam) {s : Setting} (es : settingOf s ≡ makeStep w h beam) where
+  pub number-set : (new : Beam) → s ≡ Set new → 0 ≡ makeStep w h beam .number
+  unfolding settingOf
+  number-set new g = rw (← es, g)
+
+  pub number-refused : (e : Refusal) (old : Beam) {n : ℕ} → s ≡ NotSet e old → n ≡ numberOf e → n ≡ makeStep w h beam .number
+  unfolding settingOf
+  number-refused e old g en = rw (← es, g) en
+
+  pub after-set : (new : Beam) → s ≡ Set new → new ≡ makeStep w h beam .after
+  unfolding settingOf
+  after-set new g = rw (← es, g)
+
+  pub after-refused : (e : Refusal) (old : Beam) → s ≡ NotSet e old → old ≡ makeStep w h beam .after
+  unfolding settingOf
+  after-refused e old g = rw (← es, g)
+
+pub ruleset numbers = (number-set, number-refused)
+
+pub ruleset afters = (after-set, after-refused)
