@@ -1,12 +1,9 @@
 -- "Changes no other field": whatever the step by value answers, its record differs from the one that came in the beam's place alone.
 use Prim.Native.Nat.{ℕ}
 use mathlib.Core.Path.{_≡_, refl}
-use mathlib.Core.Bool.{true}
 use lib.Dec.{ltb, eqb}
-use Rattle.refusals.specs.Answers.{pick, demand}
 use Rattle.refusals.proofs.Cases.{by-pick}
 use Rattle.beam.specs.declared.Beam.{Beam}
-use Rattle.beam.specs.Validity.{isSize, isValid}
 use Rattle.beam.specs.Settings.{beamAt, settled, stepped, makeStep}
 
 -- every field but x and y

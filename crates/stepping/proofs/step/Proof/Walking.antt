@@ -36,13 +36,13 @@ use denote.Triple.Entry.{onEntry}
 use denote.Triple.Walked.{says, Stays, stay-ref, stay-none, walkOf, ends-at}
 use Rattle.beam.specs.declared.Beam.{Beam}
 use Rattle.beam.specs.Settings.{makeStep}
-use Rattle.beam.proofs.Beam as T
-use Rattle.beam.proofs.Beam.Laws as T′
+use Rattle.beam.proofs.Beam as Row
+use Rattle.beam.proofs.Beam.Laws as RowLaws
 use Rattle.stepping.proofs.number_of_step.Symbol.{name as #stepping·number-of-step}
 use Rattle.stepping.proofs.beam_after_step.Symbol.{name as #stepping·beam-after-step}
 use Rattle.stepping.proofs.step as step
 use Rattle.stepping.proofs.step.Code as code
-use Rattle.stepping.proofs.step.Proof.Calls.{R, machine, Number, After, to-number, to-after, asks-number, asks-after, number-back, after-back}
+use Rattle.stepping.proofs.step.Proof.Calls.{R, machine, beam-fits, beam-makes, Number, After, to-number, to-after, asks-number, asks-after, number-back, after-back}
 
 -- what the body still has of each parameter where it returns: the reference, and of w and h nothing that is more than data
 abbrev pub stayed : Stays (step.ended .signature .params) (step.ended .kept)
@@ -62,6 +62,13 @@ module _ {M : Type 1} (𝓤 : URA M) (H : Heap 𝓤) (A : Atoms 𝓤) (W : Given
 
   abbrev End : Val → SProp 𝓤
   End = walkOf 𝓤 H A step.ended stayed (step.clauses 𝓤 H A at-mem run) .post (((κ, tt), (q, tt), tt, args, values), tt)
+
+  -- both calls are made at the record that the reference shows at entry, and at w and h
+  abbrev ask-number : Number 𝓤 H A at-mem run .Ghost
+  ask-number = to-number 𝓤 H A at-mem run old w h
+
+  abbrev ask-after : After 𝓤 H A at-mem run .Ghost
+  ask-after = to-after 𝓤 H A at-mem run old w h
 
   -- The end: the borrow is closed at the new record, the token is back, and u is the number in the machine.
   ends : (n : ℕ) (u : Val) (new : Beam) → Is u8 n (u ∷ []) → w < 2 ^ 64 → h < 2 ^ 64 → n ≡ makeStep w h old .number → new ≡ makeStep w h old .after
@@ -90,30 +97,30 @@ module _ {M : Type 1} (𝓤 : URA M) (H : Heap 𝓤) (A : Atoms 𝓤) (W : Given
         alloc1 ! (λ l₀. alloc1 ! (λ l₁. alloc1 ! (λ l₂. alloc1 ! (λ l₃. alloc1 ! (λ l₄. alloc1 ! (λ l₅. alloc1 ! (λ l₆. alloc0 ! $
         params1 ! $ pass1 ! (init ! 10 refl (tt, tt)) $ pass1 ! (init ! 8 refl (tt, record { fits = iw .1 })) $ pass1 ! (init ! 6 refl (tt, record { fits = ih .1 })) $ pass0 ! $
         -- the borrow is opened
-        move ! (14 ∷ 15 ∷ 16 ∷ []) $ opens ! tt R {h = old} b o (λ vs. spelt ! R (Is R) (shows 𝓤 H A R) machine (LL.tells T.the-type T′.the-laws) fullShare old vs b o $
+        move ! (14 ∷ 15 ∷ 16 ∷ []) $ opens ! tt R {h = old} b o (λ vs. spelt ! R (Is R) (shows 𝓤 H A R) machine (LL.tells Row.the-type RowLaws.the-laws) fullShare old vs b o $
         move ! (1 ∷ []) $ peeks ! R (Is R) (shows 𝓤 H A R) old (machine old) (λ is. drop ! $
         -- 0 the record's cell, 1 the open borrow, 2 and 3 the two sides of its name;
         -- the locals, each with its right to be freed behind it: _6 at 4, _5 at 6, _4 at 8, _3 at 10, _2 at 12, _1 at 14, _0 at 16
         -- _5 = *_1
-        assigns ! (of-opd ! (load ! (from ! (hop ! (look ! 14 refl) (stop !))) (look-raw ! 0 refl))) (from ! (stop !)) (init ! 6 refl (LL.lawful T.the-type T′.the-laws 𝓤 H A W .typed old _ is .0)) $
+        assigns ! (of-opd ! (load ! (from ! (hop ! (look ! 14 refl) (stop !))) (look-raw ! 0 refl))) (from ! (stop !)) (init ! 6 refl (beam-fits 𝓤 H A W old is)) $
         -- _4 = number_of_step(_5, _2, _3): what the call asks stands at 0 while its operands are read
-        nothing ! $ use1 W (raw (Number 𝓤 H A at-mem run .pre (to-number 𝓤 H A at-mem run old w h))) (asks-number 𝓤 H A at-mem run old w h W is (iw .1) (ih .1)) $
-        calls-at ! fm (Number 𝓤 H A at-mem run) known-number (to-number 𝓤 H A at-mem run old w h)
+        nothing ! $ use1 W (raw (Number 𝓤 H A at-mem run .pre ask-number)) (asks-number 𝓤 H A at-mem run old w h W is (iw .1) (ih .1)) $
+        calls-at ! fm (Number 𝓤 H A at-mem run) known-number ask-number
         (and-then ! (load ! (from ! (stop !)) (look ! 7 refl)) (and-then ! (load ! (from ! (stop !)) (look ! 13 refl)) (and-then ! (load ! (from ! (stop !)) (look ! 11 refl)) (no-more !)))) (λ u.
         number-back at-mem run old w h ! tt u (λ n en isn. land ! (from ! (stop !)) (init ! 8 refl (uint-lawful 𝓤 H A W w8 .typed n _ isn .0)) $
         -- _6 = *_1
-        assigns ! (of-opd ! (load ! (from ! (hop ! (look ! 14 refl) (stop !))) (look-raw ! 0 refl))) (from ! (stop !)) (init ! 4 refl (LL.lawful T.the-type T′.the-laws 𝓤 H A W .typed old _ is .0)) $
+        assigns ! (of-opd ! (load ! (from ! (hop ! (look ! 14 refl) (stop !))) (look-raw ! 0 refl))) (from ! (stop !)) (init ! 4 refl (beam-fits 𝓤 H A W old is)) $
         -- _5 = beam_after_step(_6, _2, _3)
-        nothing ! $ use1 W (raw (After 𝓤 H A at-mem run .pre (to-after 𝓤 H A at-mem run old w h))) (asks-after 𝓤 H A at-mem run old w h W is (iw .1) (ih .1)) $
-        calls-at ! fm (After 𝓤 H A at-mem run) known-after (to-after 𝓤 H A at-mem run old w h)
+        nothing ! $ use1 W (raw (After 𝓤 H A at-mem run .pre ask-after)) (asks-after 𝓤 H A at-mem run old w h W is (iw .1) (ih .1)) $
+        calls-at ! fm (After 𝓤 H A at-mem run) known-after ask-after
         (and-then ! (load ! (from ! (stop !)) (look ! 5 refl)) (and-then ! (load ! (from ! (stop !)) (look ! 13 refl)) (and-then ! (load ! (from ! (stop !)) (look ! 11 refl)) (no-more !)))) (λ v.
-        after-back at-mem run old w h ! tt v (λ new ea isr. land ! (from ! (stop !)) (store ! 6 refl (LL.lawful T.the-type T′.the-laws 𝓤 H A W .typed new _ isr .0)) $
+        after-back at-mem run old w h ! tt v (λ new ea isr. land ! (from ! (stop !)) (store ! 6 refl (beam-fits 𝓤 H A W new isr)) $
         -- *_1 = _5
-        assigns ! (of-opd ! (load ! (from ! (stop !)) (look ! 6 refl))) (from ! (hop ! (look ! 14 refl) (stop !))) (store-raw ! 0 refl (LL.lawful T.the-type T′.the-laws 𝓤 H A W .typed new _ isr .0)) $
+        assigns ! (of-opd ! (load ! (from ! (stop !)) (look ! 6 refl))) (from ! (hop ! (look ! 14 refl) (stop !))) (store-raw ! 0 refl (beam-fits 𝓤 H A W new isr)) $
         -- _0 = _4
         assigns ! (of-opd ! (load ! (from ! (stop !)) (look ! 8 refl))) (from ! (stop !)) (init ! 16 refl (uint-lawful 𝓤 H A W w8 .typed n _ isn .0)) $
         -- the borrow is closed at the new record: 0 the name, 1 the borrow, 2 the token, _6 at 3 to _0 at 15
-        owned ! R (Is R) ((LL.makes T.the-type T′.the-plain) 𝓤 H A) new _ isr $ move ! (1 ∷ 0 ∷ []) $ closes ! tt R new (v ∷ []) b o $
+        owned ! R (Is R) (beam-makes 𝓤 H A) new _ isr $ move ! (1 ∷ 0 ∷ []) $ closes ! tt R new (v ∷ []) b o $
         -- return, and the locals are freed, _0 first
         returns ! (look ! 15 refl) $ forget ! 3 refl $ forget ! 5 refl $ forget ! 7 refl $ forget ! 9 refl $ forget ! 11 refl $ forget ! 13 refl $ forget ! 15 refl $
         move ! (15 ∷ 16 ∷ []) $ free1 ! $ move ! (13 ∷ 14 ∷ []) $ free1 ! $ move ! (11 ∷ 12 ∷ []) $ free1 ! $ move ! (9 ∷ 10 ∷ []) $ free1 ! $ move ! (7 ∷ 8 ∷ []) $ free1 ! $
