@@ -1,0 +1,146 @@
+-- "Over any sequence of writes each colour's count follows from the list of colours named and the places not reached; nothing outside the
+-- viewport changes; the cuts between writes do not matter." Here is what that says; proofs/Theorem.antt proves it.
+use Prim.Native.Nat.{ℕ, zero, suc, _+_, _-_, _*_, _/_, _%_, min}
+use mathlib.Core.Path.{_≡_}
+use mathlib.Core.Bool.{Bool, true, false, not, _||_}
+use mathlib.Core.List.{List, [], _∷_, _++_, map}
+use lib.ListN.{length, getD, drop, replicate}
+use lib.Dec.{eqb}
+use lib.IntN.{ℤ}
+use Rattle.refusals.specs.Answers.{pick}
+use Rattle.beam.specs.declared.Beam.{Beam}
+use Rattle.beam.specs.Validity.{inViewport}
+use Rattle.beam.specs.Settings.{withBits, setBits}
+use Rattle.pixels.specs.Marks.{Mark, ink, gap, place, laid, moved, colours}
+use Rattle.pixels.specs.Writes.{rasterOf, drawRaster, rasterSurface, runsOf, drawRuns, runsSurface}
+
+-- ---- calls, by the definitions that the promises of RP, RL and RU name
+
+pub data Call : Type 0 where
+  raster : ℤ → List ℤ → Call
+  runs : List ℤ → Call
+  bits : (first second third : ℤ) → Call
+
+pub record State : Type 0 where
+  pub beam : Beam
+  pub surface : List ℕ
+
+-- what a call leaves
+unfoldable pub after : (w h : ℕ) → Call → State → State
+after w h (raster n chs) st = record { beam = drawRaster w h (st .beam) n chs (length (st .surface)) .after; surface = rasterSurface w h (st .beam) n chs (st .surface) }
+after w h (runs codes) st = record { beam = drawRuns w h (st .beam) codes (length (st .surface)) .after; surface = runsSurface w h (st .beam) codes (st .surface) }
+after w h (bits first second third) st = record { beam = setBits w h (st .beam) first second third .after; surface = st .surface }
+
+-- the number of pixels that it returns
+unfoldable pub returned : (w h : ℕ) → Call → State → ℕ
+returned w h (raster n chs) st = drawRaster w h (st .beam) n chs (length (st .surface)) .count
+returned w h (runs codes) st = drawRuns w h (st .beam) codes (length (st .surface)) .count
+returned w h (bits first second third) st = 0
+
+-- the marks that it names: none where it is refused
+unfoldable pub named : (w h : ℕ) → Call → State → List Mark
+named w h (raster n chs) st = pick (eqb (drawRaster w h (st .beam) n chs (length (st .surface)) .number) 0) (rasterOf (st .beam) n chs) []
+named w h (runs codes) st = pick (eqb (drawRuns w h (st .beam) codes (length (st .surface)) .number) 0) (runsOf (st .beam) codes) []
+named w h (bits first second third) st = []
+
+-- calls one after another, each on what the last one left
+unfoldable pub ran : (w h : ℕ) → List Call → State → State
+ran w h [] st = st
+ran w h (call ∷ calls) st = ran w h calls (after w h call st)
+
+unfoldable pub namedBy : (w h : ℕ) → List Call → State → List Mark
+namedBy w h [] st = []
+namedBy w h (call ∷ calls) st = named w h call st ++ namedBy w h calls (after w h call st)
+
+unfoldable pub returnedBy : (w h : ℕ) → List Call → State → List ℕ
+returnedBy w h [] st = []
+returnedBy w h (call ∷ calls) st = returned w h call st ∷ returnedBy w h calls (after w h call st)
+
+-- "the list of colours named"
+abbrev pub coloursBy : (w h : ℕ) → List Call → State → List ℕ
+coloursBy w h calls st = colours (namedBy w h calls st)
+
+-- ---- counting
+
+-- how often c stands in a list
+unfoldable pub count : ℕ → List ℕ → ℕ
+count c [] = 0
+count c (x ∷ xs) = pick (eqb x c) 1 0 + count c xs
+
+-- the last k of a list
+abbrev pub lastOf : ℕ → List ℕ → List ℕ
+lastOf k l = drop (length l - k) l
+
+-- how many places the viewport has
+abbrev pub area : Beam → ℕ
+area beam = (beam .top - beam .bottom + 1) * (beam .right - beam .left + 1)
+
+-- the beam's place after k steps; a gap is a step alone
+abbrev pub track : (w h : ℕ) → Beam → ℕ → ℕ
+track w h beam k = place w h (moved (replicate k gap) beam)
+
+-- whether i is one of the places f 0, f 1, .. f (n - 1)
+unfoldable pub reached : (f : ℕ → ℕ) → (n i : ℕ) → Bool
+reached f zero i = false
+reached f (suc n) i = eqb (f 0) i || reached (λ k. f (suc k)) n i
+
+-- the bytes at the places where the test fails
+unfoldable pub elsewhere : (ℕ → Bool) → List ℕ → List ℕ
+elsewhere test [] = []
+elsewhere test (x ∷ xs) = pick (test 0) (elsewhere (λ i. test (suc i)) xs) (x ∷ elsewhere (λ i. test (suc i)) xs)
+
+-- ---- the statement
+
+-- the byte i lies in column i % w and, the top row being first, in row h - 1 - i / w
+abbrev pub isOutside : (w h : ℕ) → Beam → (i : ℕ) → Bool
+isOutside w h beam i = not (inViewport beam (i % w) (h - 1 - i / w))
+
+-- the record but for its bits
+abbrev pub bitsAside : Beam → Beam
+bitsAside beam = withBits 0 beam
+
+abbrev pub inks : List ℕ → List Mark
+inks cs = map ink cs
+
+module _ (w h : ℕ) (st : State) (calls : List Call) where
+  -- the state in the end, the list of colours named, their number, and the viewport's area
+  abbrev end : State
+  end = ran w h calls st
+
+  abbrev cs : List ℕ
+  cs = coloursBy w h calls st
+
+  abbrev T : ℕ
+  T = length cs
+
+  abbrev A : ℕ
+  A = area (st .beam)
+
+  pub record Balanced : Type 0 where
+    -- "each colour's count follows from the list of colours named and the places not reached"
+    pub counts : (c : ℕ) → count c (end .surface) ≡ count c (lastOf (min T A) cs) + count c (elsewhere (reached (track w h (st .beam)) T) (st .surface))
+    -- "nothing outside the viewport changes"
+    pub outside : (i : ℕ) → isOutside w h (st .beam) i ≡ true → getD (end .surface) i 0 ≡ getD (st .surface) i 0
+    pub size : length (end .surface) ≡ length (st .surface)
+    -- "the cuts between writes do not matter": what is left is what laying the list leaves, the record's bits aside
+    pub surface-laid : end .surface ≡ laid w h (inks cs) (st .beam) (st .surface)
+    pub beam-moved : bitsAside (end .beam) ≡ bitsAside (moved (inks cs) (st .beam))
+    -- so other calls that name the same list from the same state leave the same
+    pub same-surface : (others : List Call) → coloursBy w h others st ≡ cs → ran w h others st .surface ≡ end .surface
+    pub same-beam : (others : List Call) → coloursBy w h others st ≡ cs → bitsAside (ran w h others st .beam) ≡ bitsAside (end .beam)
+    -- a write "returns its number of pixels": as many as the colours that it names, whatever state it meets
+    pub numbers : (call : Call) (met : State) → returned w h call met ≡ length (colours (named w h call met))
+
+-- ---- with gaps: what stays of any marks laid at f 0, f 1, ..
+
+-- whether a colour is laid on the place i
+unfoldable pub coloured : (f : ℕ → ℕ) → List Mark → (i : ℕ) → Bool
+coloured f [] i = false
+coloured f (gap ∷ ms) i = coloured (λ k. f (suc k)) ms i
+coloured f (ink c ∷ ms) i = eqb (f 0) i || coloured (λ k. f (suc k)) ms i
+
+-- the colours that no later colour covers
+unfoldable pub kept : (f : ℕ → ℕ) → List Mark → List ℕ
+kept f [] = []
+kept f (gap ∷ ms) = kept (λ k. f (suc k)) ms
+kept f (ink c ∷ ms) = pick (coloured (λ k. f (suc k)) ms (f 0)) (kept (λ k. f (suc k)) ms) (c ∷ kept (λ k. f (suc k)) ms)
