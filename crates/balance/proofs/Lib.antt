@@ -1,2 +1,4 @@
 pub mod Track
 pub mod Round
+pub mod Names
+pub mod Sessions
