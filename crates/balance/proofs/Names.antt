@@ -1,22 +1,22 @@
 -- What a call names: colours and no gaps, as many as it returns.
 use Prim.Native.Nat.{ℕ, zero, suc, _+_, _-_, _*_, _/_, _%_, _^_, _≤_, _<_, min}
 use mathlib.Core.Path.{_≡_, refl, sym, _∙_, ap}
-use mathlib.Core.Bool.{Bool, true, false, not, _&&_, _||_}
+use mathlib.Core.Bool.{Bool, true, false, not, _||_}
 use mathlib.Core.List.{List, [], _∷_, _++_, map}
-use native.Mathlib.Nat.{mul-zero, mul-suc, one-mul, div-add-mod, mod-lt, min-eq-left, le-div-iff-mul-le, pos-of-ne-zero}
+use native.Mathlib.Nat.{mul-zero, mul-suc, div-add-mod, mod-lt, min-eq-left}
 use native.Mathlib.Omega.{arith}
 use lib.ListN.{length, length-append, length-map}
 use lib.Dec.{eqb}
 use lib.IntN.{ℤ, natAbs}
-use borrow.Author.Tests.{eqb-true, eqb-false, not-true}
+use borrow.Author.Tests.{eqb-true, not-true}
 use Rattle.refusals.specs.Answers.{pick, demand, every}
 use Rattle.refusals.proofs.Cases.{by-pick, and-left, and-right}
 use Rattle.beam.specs.declared.Beam.{Beam}
 use Rattle.beam.specs.Validity.{isBits, onSurface, inViewport, isValid}
 use Rattle.pixels.specs.Marks.{Mark, ink, gap, moved, colours}
-use Rattle.pixels.specs.Writes.{perCharacter, pixels, characterMarks, leftAfter, rasterMarks, run, runMarks, runTotal, isSurface, isRaster, needed, rasterNumbers, rasterCharacters, writeRefusal, rasterRefusal, written, drawRaster, drawRuns, rasterOf, runsOf}
+use Rattle.pixels.specs.Writes.{perCharacter, pixels, characterMarks, leftAfter, rasterMarks, run, runMarks, runTotal, isSurface, isRaster, needed, rasterNumbers, rasterCharacters, writeRefusal, rasterRefusal, written, drawRaster, drawRuns, rasterOf}
 use Rattle.pixels.proofs.Laying.{moved-bits}
-use Rattle.balance.specs.Balance.{Call, raster, runs, bits, State, after, returned, named, namedBy, inks}
+use Rattle.balance.specs.Balance.{Call, raster, runs, bits, State, rasterTold, runsTold, after, returned, named, namedBy, inks}
 
 colours-append : (xs ys : List Mark) → colours (xs ++ ys) ≡ colours xs ++ colours ys
 unfolding colours
@@ -79,8 +79,8 @@ inked-pick b ms i = by-pick Inked b ms [] (λ e. i) (λ e. inked-none)
 
 inked-named : (w h : ℕ) (call : Call) (st : State) → Inked (named w h call st)
 unfolding named
-inked-named w h (raster n chs) st = inked-pick (eqb (drawRaster w h (st .beam) n chs (length (st .surface)) .number) 0) _ (inked-raster (st .beam) (natAbs n) (map natAbs chs))
-inked-named w h (runs codes) st = inked-pick (eqb (drawRuns w h (st .beam) codes (length (st .surface)) .number) 0) _ (inked-runs (st .beam .bits) (map natAbs codes))
+inked-named w h (raster n chs) st = inked-pick (eqb (rasterTold w h n chs st .number) 0) _ (inked-raster (st .beam) (natAbs n) (map natAbs chs))
+inked-named w h (runs codes) st = inked-pick (eqb (runsTold w h codes st .number) 0) _ (inked-runs (st .beam .bits) (map natAbs codes))
 inked-named w h (bits first second third) st = inked-none
 
 pub inked-by : (w h : ℕ) (calls : List Call) (st : State) → Inked (namedBy w h calls st)

@@ -1,8 +1,7 @@
 -- The beam goes round its viewport: each place of it once in a round, and no other place of the surface.
 use Prim.Native.Nat.{ℕ, zero, suc, _+_, _-_, _*_, _/_, _%_, _≤_, _<_}
-use mathlib.Core.Path.{_≡_, refl, sym, _∙_, ap, subst}
-use mathlib.Core.Bool.{Bool, true, false, not, _&&_}
-use mathlib.Core.List.{List, [], _∷_}
+use mathlib.Core.Path.{_≡_, refl, sym, _∙_, ap}
+use mathlib.Core.Bool.{false}
 use native.Mathlib.Nat.{mod-lt, mod-eq-of-lt, mod-self, mod-add-mod, add-mod-right, mod-eq-sub-mod, div-lt-iff-lt-mul, div-add-mod', add-zero, add-suc, suc-add, suc-mul, zero-mul, mul-pos}
 use native.Mathlib.Decide.{decLt}
 use native.Mathlib.Omega.{arith}
@@ -12,7 +11,7 @@ use borrow.Author.Tests.{le-leb}
 use Rattle.beam.specs.declared.Beam.{Beam}
 use Rattle.beam.specs.Validity.{inViewport}
 use Rattle.beam.specs.Settings.{beamAt, stepped}
-use Rattle.pixels.specs.Marks.{Mark, gap, place, moved}
+use Rattle.pixels.specs.Marks.{gap, place, moved}
 use Rattle.pixels.specs.Standing.{Valid}
 use Rattle.pixels.proofs.Laying.{by-step}
 use Rattle.balance.specs.Balance.{area, track, isOutside}

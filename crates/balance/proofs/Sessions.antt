@@ -2,8 +2,8 @@
 use Prim.Native.Nat.{ℕ}
 use mathlib.Core.Path.{_≡_, refl, sym, _∙_, ap}
 use mathlib.Core.Bool.{Bool, true, false}
-use mathlib.Core.List.{List, [], _∷_, _++_}
-use lib.ListN.{length, getD, set}
+use mathlib.Core.List.{List, [], _∷_}
+use lib.ListN.{getD, set}
 use lib.Dec.{eqb, ltb}
 use lib.IntN.{natAbs}
 use Rattle.refusals.specs.Answers.{pick}

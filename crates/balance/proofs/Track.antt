@@ -1,5 +1,5 @@
--- Marks laid along any sequence of places: what each colour's count is then, and along a sequence that goes round.
-use Prim.Native.Nat.{ℕ, zero, suc, _+_, _-_, _≤_, _<_, min}
+-- Marks laid along any sequence of places: what each colour's count is then, and which colours stay along one that goes round.
+use Prim.Native.Nat.{ℕ, zero, suc, _+_, _-_, _<_, min}
 use mathlib.Core.Path.{_≡_, refl, sym, _∙_, ap}
 use mathlib.Core.Bool.{Bool, true, false, _||_}
 use mathlib.Core.List.{List, [], _∷_}
@@ -126,7 +126,7 @@ round-on {a} {f} r = record {
 }
 
 -- along it the last of the colours stay, a round of them or all
-kept-last : {a : ℕ} (cs : List ℕ) {f : ℕ → ℕ} → Round a f → kept f (inks cs) ≡ lastOf (min (length cs) a) cs
+pub kept-last : {a : ℕ} (cs : List ℕ) {f : ℕ → ℕ} → Round a f → kept f (inks cs) ≡ lastOf (min (length cs) a) cs
 unfolding kept
 kept-last {a} [] r = sym (drop-nil (0 - min 0 a))
 kept-last {a} (c ∷ cs) {f} r = go (decLt n a) (kept-last cs (round-on r))
@@ -146,9 +146,3 @@ kept-last {a} (c ∷ cs) {f} r = go (decLt n a) (kept-last cs (round-on r))
         let e : reached (on f) n (f 0) ≡ true = ap (reached (on f) n) (sym q) ∙ reached-at (on f) n (a - 1) (omega (arith, r .some)) in
         let z : suc n - min (suc n) a ≡ suc (n - min n a) = omega arith in
         rw (coloured-inks (on f) cs (f 0), e, ih, z)
-
--- the balance of colours along it
-pub balance-round : (c : ℕ) {a : ℕ} (cs : List ℕ) {f : ℕ → ℕ} (s : List ℕ) → Round a f → ((k : ℕ) → f k < length s)
-    → count c (along f (inks cs) s) ≡ count c (lastOf (min (length cs) a) cs) + count c (elsewhere (reached f (length cs)) s)
-balance-round c cs {f} s r h =
-    balance-any c (inks cs) f s h ∙ rw (kept-last cs r, elsewhere-ext (coloured f (inks cs)) (reached f (length cs)) s (coloured-inks f cs))

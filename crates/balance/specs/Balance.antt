@@ -1,5 +1,5 @@
 -- "Over any sequence of writes each colour's count follows from the list of colours named and the places not reached; nothing outside the
--- viewport changes; the cuts between writes do not matter." Here is what that says; proofs/Theorem.antt proves it.
+-- viewport changes; the cuts between writes do not matter." What this says: the record Balanced. proofs/Theorem.antt proves it.
 use Prim.Native.Nat.{ℕ, zero, suc, _+_, _-_, _*_, _/_, _%_, min}
 use mathlib.Core.Path.{_≡_}
 use mathlib.Core.Bool.{Bool, true, false, not, _||_}
@@ -12,9 +12,9 @@ use Rattle.beam.specs.declared.Beam.{Beam}
 use Rattle.beam.specs.Validity.{inViewport}
 use Rattle.beam.specs.Settings.{withBits, setBits}
 use Rattle.pixels.specs.Marks.{Mark, ink, gap, place, laid, moved, colours}
-use Rattle.pixels.specs.Writes.{rasterOf, drawRaster, rasterSurface, runsOf, drawRuns, runsSurface}
+use Rattle.pixels.specs.Writes.{Told, rasterOf, drawRaster, rasterSurface, runsOf, drawRuns, runsSurface}
 
--- ---- calls, by the definitions that the promises of RP, RL and RU name
+-- ---- calls: RP, RL and RU, by the definitions that their promises name
 
 pub data Call : Type 0 where
   raster : ℤ → List ℤ → Call
@@ -25,25 +25,32 @@ pub record State : Type 0 where
   pub beam : Beam
   pub surface : List ℕ
 
+-- what RP and RL answer: 0 or the refusal's number, the number of pixels, and the record
+abbrev pub rasterTold : (w h : ℕ) → ℤ → List ℤ → State → Told
+rasterTold w h n chs st = drawRaster w h (st .beam) n chs (length (st .surface))
+
+abbrev pub runsTold : (w h : ℕ) → List ℤ → State → Told
+runsTold w h codes st = drawRuns w h (st .beam) codes (length (st .surface))
+
 -- what a call leaves
 unfoldable pub after : (w h : ℕ) → Call → State → State
-after w h (raster n chs) st = record { beam = drawRaster w h (st .beam) n chs (length (st .surface)) .after; surface = rasterSurface w h (st .beam) n chs (st .surface) }
-after w h (runs codes) st = record { beam = drawRuns w h (st .beam) codes (length (st .surface)) .after; surface = runsSurface w h (st .beam) codes (st .surface) }
+after w h (raster n chs) st = record { beam = rasterTold w h n chs st .after; surface = rasterSurface w h (st .beam) n chs (st .surface) }
+after w h (runs codes) st = record { beam = runsTold w h codes st .after; surface = runsSurface w h (st .beam) codes (st .surface) }
 after w h (bits first second third) st = record { beam = setBits w h (st .beam) first second third .after; surface = st .surface }
 
 -- the number of pixels that it returns
 unfoldable pub returned : (w h : ℕ) → Call → State → ℕ
-returned w h (raster n chs) st = drawRaster w h (st .beam) n chs (length (st .surface)) .count
-returned w h (runs codes) st = drawRuns w h (st .beam) codes (length (st .surface)) .count
+returned w h (raster n chs) st = rasterTold w h n chs st .count
+returned w h (runs codes) st = runsTold w h codes st .count
 returned w h (bits first second third) st = 0
 
 -- the marks that it names: none where it is refused
 unfoldable pub named : (w h : ℕ) → Call → State → List Mark
-named w h (raster n chs) st = pick (eqb (drawRaster w h (st .beam) n chs (length (st .surface)) .number) 0) (rasterOf (st .beam) n chs) []
-named w h (runs codes) st = pick (eqb (drawRuns w h (st .beam) codes (length (st .surface)) .number) 0) (runsOf (st .beam) codes) []
+named w h (raster n chs) st = pick (eqb (rasterTold w h n chs st .number) 0) (rasterOf (st .beam) n chs) []
+named w h (runs codes) st = pick (eqb (runsTold w h codes st .number) 0) (runsOf (st .beam) codes) []
 named w h (bits first second third) st = []
 
--- calls one after another, each on what the last one left
+-- calls one after another, each on what the last one left: the state in the end, and all marks that they name
 unfoldable pub ran : (w h : ℕ) → List Call → State → State
 ran w h [] st = st
 ran w h (call ∷ calls) st = ran w h calls (after w h call st)
@@ -51,10 +58,6 @@ ran w h (call ∷ calls) st = ran w h calls (after w h call st)
 unfoldable pub namedBy : (w h : ℕ) → List Call → State → List Mark
 namedBy w h [] st = []
 namedBy w h (call ∷ calls) st = named w h call st ++ namedBy w h calls (after w h call st)
-
-unfoldable pub returnedBy : (w h : ℕ) → List Call → State → List ℕ
-returnedBy w h [] st = []
-returnedBy w h (call ∷ calls) st = returned w h call st ∷ returnedBy w h calls (after w h call st)
 
 -- "the list of colours named"
 abbrev pub coloursBy : (w h : ℕ) → List Call → State → List ℕ
@@ -71,7 +74,7 @@ count c (x ∷ xs) = pick (eqb x c) 1 0 + count c xs
 abbrev pub lastOf : ℕ → List ℕ → List ℕ
 lastOf k l = drop (length l - k) l
 
--- how many places the viewport has
+-- how many places the viewport has: its rows times its columns
 abbrev pub area : Beam → ℕ
 area beam = (beam .top - beam .bottom + 1) * (beam .right - beam .left + 1)
 
@@ -99,11 +102,12 @@ isOutside w h beam i = not (inViewport beam (i % w) (h - 1 - i / w))
 abbrev pub bitsAside : Beam → Beam
 bitsAside beam = withBits 0 beam
 
+-- colours as marks
 abbrev pub inks : List ℕ → List Mark
 inks cs = map ink cs
 
 module _ (w h : ℕ) (st : State) (calls : List Call) where
-  -- the state in the end, the list of colours named, their number, and the viewport's area
+  -- the state in the end, the list of colours named, their number, and the number of the viewport's places
   abbrev end : State
   end = ran w h calls st
 

@@ -5,12 +5,11 @@ use mathlib.Core.List.{List, [], _∷_, map}
 use lib.ListN.{length}
 use lib.IntN.{ℤ, pos, negsuc}
 use Rattle.refusals.specs.Answers.{every}
-use Rattle.beam.specs.declared.Beam.{Beam}
 use Rattle.beam.specs.Validity.{isSize, isBits, onSurface, inViewport, isValid}
 use Rattle.beam.specs.Settings.{settled, bitsFrom, setBits, stepped}
 use Rattle.pixels.specs.Marks.{place, laid, moved, colours}
 use Rattle.pixels.specs.Writes.{pixels, characterMarks, leftAfter, rasterMarks, runMarks, runTotal, isSurface, within, rasterNumbers, rasterCharacters, runNumbers, writeRefusal, rasterRefusal, runRefusal, written, surfaceAfter, drawRaster, rasterSurface, drawRuns, runsSurface}
-use Rattle.balance.specs.Balance.{Call, raster, runs, bits, State, after, returned, named, ran, namedBy, returnedBy, coloursBy, count, reached, elsewhere, lastOf, area, track}
+use Rattle.balance.specs.Balance.{Call, raster, runs, bits, State, after, returned, named, ran, namedBy, coloursBy, count, reached, elsewhere, lastOf, area, track}
 
 -- 4 by 3 bytes; the viewport is columns 1 and 2 of the two lower rows, and the beam stands at its upper right
 abbrev pub start : State
@@ -19,50 +18,82 @@ start = record {
   surface = 9 ∷ 9 ∷ 9 ∷ 9 ∷ 9 ∷ 5 ∷ 6 ∷ 9 ∷ 9 ∷ 7 ∷ 5 ∷ 5 ∷ [];
 }
 
--- the calls, and what they give; the last four are the two sides of the balance for the colour 5
+-- the numbers that the calls return, each on what the last one left
+unfoldable pub returnedBy : (w h : ℕ) → List Call → State → List ℕ
+returnedBy w h [] st = []
+returnedBy w h (call ∷ calls) st = returned w h call st ∷ returnedBy w h calls (after w h call st)
+
+-- calls and what they give: the numbers returned, the colours named, the surface; and the balance of the colour 5: how often it stands on the
+-- surface, among the colours that stay, and on the places not reached
 pub record Example : Type 0 where
   pub calls : List Call
   pub numbers : List ℕ
-  pub colours : List ℕ
+  pub named : List ℕ
   pub surface : List ℕ
   pub fives : ℕ
-  pub stay : ℕ
+  pub staying : ℕ
   pub not-reached : ℕ
 
-abbrev pub worked : List Call → Example
-worked calls = record {
+abbrev pub worked : List Call → (cs : List ℕ) → (end : State) → Example
+worked calls cs end = record {
   calls = calls;
   numbers = returnedBy 4 3 calls start;
-  colours = coloursBy 4 3 calls start;
-  surface = ran 4 3 calls start .surface;
-  fives = count 5 (ran 4 3 calls start .surface);
-  stay = count 5 (lastOf (min (length (coloursBy 4 3 calls start)) (area (start .beam))) (coloursBy 4 3 calls start));
-  not-reached = count 5 (elsewhere (reached (track 4 3 (start .beam)) (length (coloursBy 4 3 calls start))) (start .surface));
+  named = cs;
+  surface = end .surface;
+  fives = count 5 (end .surface);
+  staying = count 5 (lastOf (min (length cs) (area (start .beam))) cs);
+  not-reached = count 5 (elsewhere (reached (track 4 3 (start .beam)) (length cs)) (start .surface));
 }
 
--- RU with three bits
-abbrev three : Call
-three = bits (pos 0) (pos 0) (pos 3)
+-- RU with so many bits; RP with one character, and with two; RL with one code
+abbrev ru : ℤ → Call
+ru b = bits (pos 0) (pos 0) b
 
--- RP of colours 1 2 3 4, and of its first n
-abbrev four : ℕ → List ℤ → Call
-four n chs = raster (pos n) chs
+abbrev rp : ℕ → ℕ → Call
+rp n ch = raster (pos n) (pos ch ∷ [])
+
+abbrev rp2 : ℕ → ℕ → ℕ → Call
+rp2 n ch ch′ = raster (pos n) (pos ch ∷ pos ch′ ∷ [])
+
+abbrev rl : ℤ → Call
+rl code = runs (code ∷ [])
 
 abbrev pub table : List Example
 table =
+    -- three colours: RP is refused before RU, and RL with a code below 0
     record {
-      calls = raster (pos 1) (pos 42 ∷ []) ∷ three ∷ raster (pos 2) (pos 45 ∷ []) ∷ runs (negsuc 0 ∷ []) ∷ runs (pos 11 ∷ []) ∷ [];
+      calls = rp 2 45 ∷ ru (pos 3) ∷ rp 2 45 ∷ rl (negsuc 0) ∷ rl (pos 11) ∷ [];
       numbers = 0 ∷ 0 ∷ 2 ∷ 0 ∷ 1 ∷ [];
-      colours = 1 ∷ 5 ∷ 3 ∷ [];
+      named = 1 ∷ 5 ∷ 3 ∷ [];
       surface = 9 ∷ 9 ∷ 9 ∷ 9 ∷ 9 ∷ 5 ∷ 1 ∷ 9 ∷ 9 ∷ 5 ∷ 3 ∷ 5 ∷ [];
       fives = 3;
-      stay = 1;
+      staying = 1;
       not-reached = 2;
+    }
+    -- four: RP is refused with a character too few, and RU with four bits
+    ∷ record {
+      calls = ru (pos 3) ∷ rp 3 45 ∷ rp2 3 45 40 ∷ ru (pos 4) ∷ rl (pos 13) ∷ [];
+      numbers = 0 ∷ 0 ∷ 3 ∷ 0 ∷ 1 ∷ [];
+      named = 1 ∷ 5 ∷ 1 ∷ 5 ∷ [];
+      surface = 9 ∷ 9 ∷ 9 ∷ 9 ∷ 9 ∷ 5 ∷ 1 ∷ 9 ∷ 9 ∷ 5 ∷ 1 ∷ 5 ∷ [];
+      fives = 3;
+      staying = 2;
+      not-reached = 1;
+    }
+    -- six: the bits change between the writes, and RP is refused with the character 96
+    ∷ record {
+      calls = ru (pos 3) ∷ rl (pos 21) ∷ ru (pos 6) ∷ rp 1 37 ∷ rp 1 96 ∷ rl (pos 194) ∷ [];
+      numbers = 0 ∷ 2 ∷ 0 ∷ 1 ∷ 0 ∷ 3 ∷ [];
+      named = 5 ∷ 5 ∷ 5 ∷ 2 ∷ 2 ∷ 2 ∷ [];
+      surface = 9 ∷ 9 ∷ 9 ∷ 9 ∷ 9 ∷ 2 ∷ 2 ∷ 9 ∷ 9 ∷ 2 ∷ 5 ∷ 5 ∷ [];
+      fives = 2;
+      staying = 1;
+      not-reached = 1;
     }
     ∷ []
 
 abbrev worked-of : Example → Example
-worked-of e = worked (e .calls)
+worked-of e = worked (e .calls) (coloursBy 4 3 (e .calls) start) (ran 4 3 (e .calls) start)
 
 -- the one claim
 pub all-as-worked : map worked-of table ≡ table
