@@ -1,21 +1,22 @@
 -- What a call names: colours and no gaps, as many as it returns.
 use Prim.Native.Nat.{ℕ, zero, suc, _+_, _-_, _*_, _/_, _%_, _^_, _≤_, _<_, min}
 use mathlib.Core.Path.{_≡_, refl, sym, _∙_, ap}
-use mathlib.Core.Bool.{Bool, true, false, not, _||_}
+use mathlib.Core.Bool.{Bool, true, false}
 use mathlib.Core.List.{List, [], _∷_, _++_, map}
-use native.Mathlib.Nat.{mul-zero, mul-suc, div-add-mod, mod-lt, min-eq-left}
+use native.Mathlib.Nat.{mul-zero, mul-suc, div-add-mod, mod-lt, min-eq-left, pos-of-ne-zero}
 use native.Mathlib.Omega.{arith}
 use lib.ListN.{length, length-append, length-map}
 use lib.Dec.{eqb}
 use lib.IntN.{ℤ, natAbs}
-use borrow.Author.Tests.{eqb-true, not-true}
-use Rattle.refusals.specs.Answers.{pick, demand, every}
-use Rattle.refusals.proofs.Cases.{by-pick, and-left, and-right}
+use borrow.Author.Tests.{eqb-true}
+use Rattle.refusals.specs.Answers.{pick, every}
+use Rattle.refusals.proofs.Cases.{by-pick, and-left}
 use Rattle.beam.specs.declared.Beam.{Beam}
-use Rattle.beam.specs.Validity.{isBits, onSurface, inViewport, isValid}
 use Rattle.pixels.specs.Marks.{Mark, ink, gap, moved, colours}
-use Rattle.pixels.specs.Writes.{perCharacter, pixels, characterMarks, leftAfter, rasterMarks, run, runMarks, runTotal, isSurface, isRaster, needed, rasterNumbers, rasterCharacters, writeRefusal, rasterRefusal, written, drawRaster, drawRuns, rasterOf}
+use Rattle.pixels.specs.Writes.{perCharacter, pixels, characterMarks, leftAfter, rasterMarks, run, runMarks, runTotal, isRaster, needed, rasterCharacters, rasterRefusal, written, drawRaster, drawRuns, rasterOf}
 use Rattle.pixels.proofs.Laying.{moved-bits}
+use Rattle.pixels.proofs.Looking.{some-per-character, valid-bits}
+use Rattle.pixels.proofs.Answering.{raster-spelt, raster-passes}
 use Rattle.balance.specs.Balance.{Call, raster, runs, bits, State, rasterTold, runsTold, after, returned, named, namedBy, inks}
 
 colours-append : (xs ys : List Mark) → colours (xs ++ ys) ≡ colours xs ++ colours ys
@@ -123,38 +124,14 @@ enough m n l =
     let r : (n + m - 1) % m < m = mod-lt (n + m - 1) l in
     omega arith
 
--- where there is no refusal, the test has passed and what comes next gives none
-met : (ok : Bool) (e next : ℕ) → (e ≡ 0 → ⊥) → demand ok e next ≡ 0 → (ok ≡ true) × (next ≡ 0)
-met true e next h q = (refl, q)
-met false e next h q = absurd (h q)
-
--- bits that are set are 1, 2, 3 or 6, so a character has a pixel
-some-pixel : (b : ℕ) → isBits b ≡ true → 0 < perCharacter b
-unfolding isBits
-some-pixel b = go (eqb b 1) (eqb b 2) (eqb b 3) refl refl refl
-  where
-    go : (x y z : Bool) → eqb b 1 ≡ x → eqb b 2 ≡ y → eqb b 3 ≡ z → (x || (y || (z || eqb b 6))) ≡ true → 0 < 6 / b
-    go true y z i j k e = rw (eqb-true b 1 i) (omega arith)
-    go false true z i j k e = rw (eqb-true b 2 j) (omega arith)
-    go false false true i j k e = rw (eqb-true b 3 k) (omega arith)
-    go false false false i j k e = rw (eqb-true b 6 e) (omega arith)
-
-bits-set : (w h : ℕ) (beam : Beam) → isValid w h beam ≡ true → not (eqb (beam .bits) 0) ≡ true → isBits (beam .bits) ≡ true
-unfolding isValid
-bits-set w h beam e z =
-    rw (not-true (eqb (beam .bits) 0) z) at (and-right (inViewport beam (beam .x) (beam .y)) _ (and-right (onSurface w h (beam .right) (beam .top)) _ e))
-
 tally-accepted : (w h size : ℕ) (beam : Beam) (n : ℤ) (chs : List ℤ) → rasterRefusal w h size beam n chs ≡ 0 → tally (rasterOf beam n chs) ≡ natAbs n
-unfolding rasterRefusal writeRefusal rasterCharacters
+unfolding rasterCharacters
 tally-accepted w h size beam n chs e =
     let b = beam .bits in
-    let e₁ = met (isSurface w h size) 11 _ (λ q. omega arith) e in
-    let e₂ = met (isValid w h beam) 8 _ (λ q. omega arith) (e₁ .1) in
-    let e₃ = met (not (eqb b 0)) 9 _ (λ q. omega arith) (e₂ .1) in
-    let e₄ = met (rasterNumbers n chs) 8 _ (λ q. omega arith) (e₃ .1) in
-    let e₅ = met (rasterCharacters b n chs) 10 0 (λ q. omega arith) (e₄ .1) in
-    let l : length chs ≡ needed b (natAbs n) = eqb-true _ _ (and-left (eqb (length chs) (needed b (natAbs n))) (every isRaster chs) (e₅ .0)) in
-    let m : natAbs n ≤ 6 / b * length (map natAbs chs) = rw (length-map chs natAbs, l) (enough (6 / b) (natAbs n) (some-pixel b (bits-set w h beam (e₂ .0) (e₃ .0)))) in
+    let p = raster-passes w h size beam n chs e in
+    let l : length chs ≡ needed b (natAbs n) = eqb-true _ _ (and-left (eqb (length chs) (needed b (natAbs n))) (every isRaster chs) (raster-spelt w h size beam n chs e)) in
+    let s : 0 < 6 / b = some-per-character b (pos-of-ne-zero (p .bits)) (valid-bits w h beam (p .valid)) in
+    let m : natAbs n ≤ 6 / b * length (map natAbs chs) = rw (length-map chs natAbs, l) (enough (6 / b) (natAbs n) s) in
     tally-raster b beam refl (natAbs n) (map natAbs chs) ∙ min-eq-left m
 
 -- ---- a call returns as many as it names

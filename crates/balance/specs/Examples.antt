@@ -8,7 +8,7 @@ use Rattle.refusals.specs.Answers.{every}
 use Rattle.beam.specs.Validity.{isSize, isBits, onSurface, inViewport, isValid}
 use Rattle.beam.specs.Settings.{settled, bitsFrom, setBits, stepped}
 use Rattle.pixels.specs.Marks.{place, laid, moved, colours}
-use Rattle.pixels.specs.Writes.{pixels, characterMarks, leftAfter, rasterMarks, runMarks, runTotal, isSurface, within, rasterNumbers, rasterCharacters, runNumbers, writeRefusal, rasterRefusal, runRefusal, written, surfaceAfter, drawRaster, rasterSurface, drawRuns, runsSurface}
+use Rattle.pixels.specs.Writes.{pixels, characterMarks, leftAfter, rasterMarks, runMarks, runTotal, isSurface, rasterNumbers, rasterCharacters, runNumbers, writeRefusal, rasterRefusal, runRefusal, written, surfaceAfter, drawRaster, rasterSurface, drawRuns, runsSurface}
 use Rattle.balance.specs.Balance.{Call, raster, runs, bits, State, after, returned, named, ran, namedBy, coloursBy, count, reached, elsewhere, lastOf, area, track}
 
 -- 4 by 3 bytes; the viewport is columns 1 and 2 of the two lower rows, and the beam stands at its upper right
@@ -97,5 +97,7 @@ worked-of e = worked (e .calls) (coloursBy 4 3 (e .calls) start) (ran 4 3 (e .ca
 
 -- the one claim
 pub all-as-worked : map worked-of table ≡ table
-unfolding isSize isBits onSurface inViewport isValid settled bitsFrom setBits stepped place laid moved colours pixels characterMarks leftAfter rasterMarks runMarks runTotal isSurface within rasterNumbers rasterCharacters runNumbers writeRefusal rasterRefusal runRefusal written surfaceAfter drawRaster rasterSurface drawRuns runsSurface after returned named ran namedBy returnedBy count reached elsewhere every
+unfolding isSize isBits onSurface inViewport isValid settled bitsFrom setBits stepped place laid moved colours pixels characterMarks leftAfter
+    rasterMarks runMarks runTotal isSurface rasterNumbers rasterCharacters runNumbers writeRefusal rasterRefusal runRefusal every written surfaceAfter
+    drawRaster rasterSurface drawRuns runsSurface after returned named ran namedBy returnedBy count reached elsewhere
 all-as-worked = refl
