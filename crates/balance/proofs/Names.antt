@@ -129,14 +129,16 @@ unfolding rasterCharacters
 tally-accepted w h size beam n chs e =
     let b = beam .bits in
     let p = raster-passes w h size beam n chs e in
-    let l : length chs ≡ needed b (natAbs n) = eqb-true _ _ (and-left (eqb (length chs) (needed b (natAbs n))) (every isRaster chs) (raster-spelt w h size beam n chs e)) in
+    let k : ℕ = needed b (natAbs n) in
+    let l : length chs ≡ k = eqb-true _ k (and-left (eqb (length chs) k) (every isRaster chs) (raster-spelt w h size beam n chs e)) in
     let s : 0 < 6 / b = some-per-character b (pos-of-ne-zero (p .bits)) (valid-bits w h beam (p .valid)) in
     let m : natAbs n ≤ 6 / b * length (map natAbs chs) = rw (length-map chs natAbs, l) (enough (6 / b) (natAbs n) s) in
     tally-raster b beam refl (natAbs n) (map natAbs chs) ∙ min-eq-left m
 
 -- ---- a call returns as many as it names
 
-tally-written : (f n : ℕ) (ms : List Mark) (beam : Beam) → (f ≡ 0 → tally ms ≡ n) → written f n ms beam .count ≡ tally (pick (eqb (written f n ms beam .number) 0) ms [])
+tally-written : (f n : ℕ) (ms : List Mark) (beam : Beam) → (f ≡ 0 → tally ms ≡ n)
+    → written f n ms beam .count ≡ tally (pick (eqb (written f n ms beam .number) 0) ms [])
 unfolding written colours
 tally-written f n ms beam h = go (eqb f 0) refl
   where

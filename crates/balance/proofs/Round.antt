@@ -35,7 +35,8 @@ seatOf b = (b .top - b .y) * columns b + (b .x - b .left)
 seat-at : (b : Beam) (q r : ℕ) {x y : ℕ} → r < columns b → x ≡ b .left + r → y ≡ b .top - q → beamAt b x y ≡ seat b (q * columns b + r)
 seat-at b q r l ex ey = rw (ex, ey, digits-div q l, digits-mod q l)
 
-step-at : {w h : ℕ} {b : Beam} → Valid w h b → (q r : ℕ) → q < rows b → r < columns b → stepped (beamAt b (b .left + r) (b .top - q)) ≡ seat b (suc (q * columns b + r) % area b)
+step-at : {w h : ℕ} {b : Beam} → Valid w h b → (q r : ℕ) → q < rows b → r < columns b
+    → stepped (beamAt b (b .left + r) (b .top - q)) ≡ seat b (suc (q * columns b + r) % area b)
 step-at {b = b} v q r l m =
     by-step (λ (n : Beam). n ≡ seat b (suc (q * columns b + r) % area b)) (beamAt b (b .left + r) (b .top - q))
     (λ i.

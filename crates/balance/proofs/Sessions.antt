@@ -23,7 +23,10 @@ pick-ap f false x y = refl
 
 stepped-aside : (beam : Beam) → stepped (bitsAside beam) ≡ bitsAside (stepped beam)
 unfolding stepped
-stepped-aside beam = sym (pick-ap bitsAside (ltb (beam .x) (beam .right)) _ _ ∙ ap (pick (ltb (beam .x) (beam .right)) _) (pick-ap bitsAside (ltb (beam .bottom) (beam .y)) _ _))
+stepped-aside beam =
+    let right = ltb (beam .x) (beam .right) in
+    let down = ltb (beam .bottom) (beam .y) in
+    sym (pick-ap bitsAside right _ _ ∙ ap (pick right _) (pick-ap bitsAside down _ _))
 
 laid-aside : (w h : ℕ) (ms : List Mark) (beam : Beam) (s : List ℕ) → laid w h ms (bitsAside beam) s ≡ laid w h ms beam s
 unfolding laid place
@@ -68,7 +71,8 @@ module _ (w h : ℕ) where
   call-beam (raster n chs) st = ap bitsAside (write-beam _ _ _ _)
   call-beam (runs codes) st = ap bitsAside (write-beam _ _ _ _)
   call-beam (bits first second third) st =
-      by-pick (λ (b : Beam). bitsAside b ≡ bitsAside (st .beam)) (eqb (setBits w h (st .beam) first second third .number) 0) (withBits (natAbs third) (st .beam)) (st .beam) (λ e. refl) (λ e. refl)
+      let allowed = eqb (setBits w h (st .beam) first second third .number) 0 in
+      by-pick (λ (b : Beam). bitsAside b ≡ bitsAside (st .beam)) allowed (withBits (natAbs third) (st .beam)) (st .beam) (λ e. refl) (λ e. refl)
 
   -- ---- calls
 
@@ -79,7 +83,9 @@ module _ (w h : ℕ) where
       let next = after w h call st in
       let ms = named w h call st in
       let ns = namedBy w h calls next in
-      ran-surface calls next ∙ laid-same (next .beam) (moved ms (st .beam)) (call-beam call st) w h ns (next .surface) ∙ ap (laid w h ns (moved ms (st .beam))) (call-surface call st)
+      ran-surface calls next
+      ∙ laid-same (next .beam) (moved ms (st .beam)) (call-beam call st) w h ns (next .surface)
+      ∙ ap (laid w h ns (moved ms (st .beam))) (call-surface call st)
       ∙ sym (laid-append w h ms ns (st .beam) (st .surface))
 
   pub ran-beam : (calls : List Call) (st : State) → bitsAside (ran w h calls st .beam) ≡ bitsAside (moved (namedBy w h calls st) (st .beam))

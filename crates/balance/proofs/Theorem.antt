@@ -30,15 +30,17 @@ module _ {w h : ℕ} {beam : Beam} (s : List ℕ) (r : Ready w h beam (length s)
   track-lt k = rw (r .whole) (place-lt (moved-valid (replicate k gap) (r .valid)))
 
   -- any marks: the colours that stay, and the bytes that no colour is laid on
-  pub balance-marks : (c : ℕ) (ms : List Mark) → count c (laid w h ms beam s) ≡ count c (kept (track w h beam) ms) + count c (elsewhere (coloured (track w h beam) ms) s)
+  pub balance-marks : (c : ℕ) (ms : List Mark)
+      → count c (laid w h ms beam s) ≡ count c (kept (track w h beam) ms) + count c (elsewhere (coloured (track w h beam) ms) s)
   balance-marks c ms = rw (laid-along w h ms beam s) (balance-any c ms (track w h beam) s track-lt)
 
   -- marks that are all colours: the last of them, and the bytes not reached
   pub balance-inks : (c : ℕ) (cs : List ℕ)
       → count c (laid w h (inks cs) beam s) ≡ count c (lastOf (min (length cs) (area beam)) cs) + count c (elsewhere (reached (track w h beam) (length cs)) s)
   balance-inks c cs =
-      balance-marks c (inks cs)
-      ∙ rw (kept-last cs (track-round (r .valid)), elsewhere-ext (coloured (track w h beam) (inks cs)) (reached (track w h beam) (length cs)) s (coloured-inks (track w h beam) cs))
+      let f : ℕ → ℕ = track w h beam in
+      let e = elsewhere-ext (coloured f (inks cs)) (reached f (length cs)) s (coloured-inks f cs) in
+      balance-marks c (inks cs) ∙ rw (kept-last cs (track-round (r .valid)), e)
 
   pub outside-marks : (ms : List Mark) (i : ℕ) → isOutside w h beam i ≡ true → getD (laid w h ms beam s) i 0 ≡ getD s i 0
   outside-marks ms i o =
@@ -55,7 +57,8 @@ module _ (w h : ℕ) (st : State) where
   beam-moved : (calls : List Call) → bitsAside (ran w h calls st .beam) ≡ bitsAside (moved (inks (coloursBy w h calls st)) (st .beam))
   beam-moved calls = ran-beam w h calls st ∙ ap (λ (ms : List Mark). bitsAside (moved ms (st .beam))) (inked-all _ (inked-by w h calls st))
 
-pub balanced : (w h : ℕ) (st : State) (calls : List Call) → isSurface w h (length (st .surface)) ≡ true → isValid w h (st .beam) ≡ true → Balanced w h st calls
+pub balanced : (w h : ℕ) (st : State) (calls : List Call)
+    → isSurface w h (length (st .surface)) ≡ true → isValid w h (st .beam) ≡ true → Balanced w h st calls
 balanced w h st calls s v =
     let r : Ready w h (st .beam) (length (st .surface)) = ready-of w h (length (st .surface)) (st .beam) s v in
     let cs : List ℕ = coloursBy w h calls st in

@@ -73,7 +73,8 @@ pub balance-any : (c : ℕ) (ms : List Mark) (f : ℕ → ℕ) (s : List ℕ) �
 unfolding along kept coloured count
 balance-any c [] f s h = rw (elsewhere-all s) (omega arith)
 balance-any c (gap ∷ ms) f s h = rw (set-getD s (f 0) 0) (balance-any c ms (on f) s (λ k. h (suc k)))
-balance-any c (ink d ∷ ms) f s h = go (coloured (on f) ms (f 0)) refl (balance-any c ms (on f) (set s (f 0) d) (λ k. rw (length-set s (f 0) d) (h (suc k))))
+balance-any c (ink d ∷ ms) f s h =
+    go (coloured (on f) ms (f 0)) refl (balance-any c ms (on f) (set s (f 0) d) (λ k. rw (length-set s (f 0) d) (h (suc k))))
   where
     later : ℕ → Bool
     later i = coloured (on f) ms i
