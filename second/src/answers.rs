@@ -1,6 +1,6 @@
 //! What readings and writings answer.
 
-/// The refusals of document 01 that reading and writing can give, under the paper's own numbers.
+/// The refusals of document 01 that reading, writing and the pixel commands can give, under the paper's own numbers.
 #[derive(Clone, Copy, Debug, PartialEq, Eq)]
 pub enum Refusal {
     BytesEnd = 1,
@@ -11,7 +11,11 @@ pub enum Refusal {
     CountWrong = 5,
     NewEscape = 6,
     TooShort = 7,
+    /// A value out of range, or a record that is not valid.
     OutOfRange = 8,
+    BitsNotSet = 9,
+    RasterWrong = 10,
+    SurfaceSize = 11,
 }
 
 impl Refusal {
