@@ -2,6 +2,8 @@
 
 mod answers;
 mod blocks;
+mod calls;
+mod cases;
 mod commands;
 mod digest;
 mod draws;
@@ -11,6 +13,7 @@ mod items;
 mod lister;
 mod made;
 mod parameters;
+mod pictures;
 mod pixels;
 mod points;
 mod ranges;
@@ -19,8 +22,10 @@ mod reports;
 mod spellings;
 mod streams;
 mod table;
+mod trouble;
 mod values;
 mod vectors;
+mod ways;
 
 use std::env;
 use std::error::Error;
@@ -30,7 +35,8 @@ const COMMANDS: &str = "\
 commands:
   second vectors < table    run all blocks of docs/VECTORS.md and print their lines
   second list < bytes       print a line for each item of up to 4,096 bytes
-  second streams            make and list all streams of docs/STREAMS.md and print a line for each block";
+  second streams            make and list all streams of docs/STREAMS.md and print a line for each block
+  second pictures           draw the picture and run the small cases of docs/PICTURES.md and print their lines";
 
 const FAILED: u8 = 1;
 const NOT_A_COMMAND: u8 = 2;
@@ -45,6 +51,7 @@ fn main() -> ExitCode {
         ["vectors"] => status_of(vectors::run()),
         ["list"] => status_of(lister::run()),
         ["streams"] => status_of(streams::run()),
+        ["pictures"] => status_of(pictures::run()),
         _ => {
             eprintln!("{COMMANDS}");
             ExitCode::from(NOT_A_COMMAND)

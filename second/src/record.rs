@@ -1,5 +1,7 @@
 //! The record of the pixel commands: bits, viewport and beam. RU, RS, RH, the step and a fresh record.
 
+use std::fmt;
+
 use crate::answers::Refusal;
 use crate::points::Point;
 
@@ -106,6 +108,18 @@ impl Record {
         }
     }
 
+    pub fn fields(&self) -> [usize; 7] {
+        [
+            self.bits,
+            self.left,
+            self.bottom,
+            self.right,
+            self.top,
+            self.x,
+            self.y,
+        ]
+    }
+
     fn is_valid(&self, size: Size) -> bool {
         matches!(self.bits, 0 | 1 | 2 | 3 | 6)
             && self.left <= self.right
@@ -146,6 +160,13 @@ impl Record {
 
     pub fn advance(&mut self, places: usize) {
         (self.x, self.y) = self.place_past_beam(places);
+    }
+}
+
+impl fmt::Display for Record {
+    fn fmt(&self, line: &mut fmt::Formatter) -> fmt::Result {
+        let fields = self.fields().map(|field| field.to_string());
+        write!(line, "{}", fields.join(" "))
     }
 }
 
@@ -224,10 +245,7 @@ mod tests {
         for outside in [point(5, 0), point(0, 4)] {
             for corners in [[outside, point(0, 0)], [point(0, 0), outside]] {
                 let mut record = fresh();
-                assert_eq!(
-                    record.set_viewport(SIZE, corners),
-                    Err(Refusal::OutOfRange)
-                );
+                assert_eq!(record.set_viewport(SIZE, corners), Err(Refusal::OutOfRange));
                 assert_eq!(record, fresh());
             }
         }
@@ -276,10 +294,7 @@ mod tests {
             let mut record = fresh();
             wrong(&mut record);
             assert_eq!(record.step(SIZE), Err(Refusal::OutOfRange));
-            assert_eq!(
-                record.step(Size { w: 0, h: 4 }),
-                Err(Refusal::SurfaceSize)
-            );
+            assert_eq!(record.step(Size { w: 0, h: 4 }), Err(Refusal::SurfaceSize));
         }
     }
 }
