@@ -1,0 +1,44 @@
+// Draws. A case's number x goes from one draw to the next; what a draw gives is read from the x behind it.
+
+// "makes x into (x * 1103515245 + 12345) mod 2147483648"
+pub fn next(x: u32) -> u32 {
+    ((x as u64 * 1103515245 + 12345) % 2147483648) as u32
+}
+
+// "gives (x / 65536) mod n". No draw is from 0.
+pub fn number(x: u32, n: u32) -> u32 {
+    if n == 0 {
+        return 0;
+    }
+    x / 65536 % n
+}
+
+pub fn place(x: u32, n: usize) -> usize {
+    if n == 0 {
+        return 0;
+    }
+    (x / 65536) as usize % n
+}
+
+// A number from first to last; first where last is below it.
+pub fn between(x: u32, first: usize, last: usize) -> usize {
+    if last < first {
+        return first;
+    }
+    let choices = std::num::wrapping_add_usize(last - first, 1);
+    std::num::wrapping_add_usize(first, place(x, choices))
+}
+
+pub fn byte(x: u32) -> u8 {
+    (x / 65536 % 256) as u8
+}
+
+// "1 + a number drawn from 9"
+pub fn side(x: u32) -> u16 {
+    1 + (x / 65536 % 9) as u16
+}
+
+// "m drawn from 32768"
+pub fn magnitude(x: u32) -> u16 {
+    (x / 65536 % 32768) as u16
+}
