@@ -71,10 +71,10 @@ fn run(bits: usize, codes: usize, longest: usize) -> Write {
 fn in_turns(k: usize) -> Write {
     let bits = if k % 4 < 2 { 3 } else { 6 };
     let entry = k / 2 % 5;
-    if k % 2 == 0 {
-        raster(bits, [7, 64, 255, 1, 200][entry])
-    } else {
+    if k % 2 == 1 {
         run(bits, [20, 1, 256, 3, 100][entry], 500)
+    } else {
+        raster(bits, [7, 64, 255, 1, 200][entry])
     }
 }
 
