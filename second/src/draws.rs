@@ -22,7 +22,7 @@ impl Draws {
         self.draw_from(256) as u8
     }
 
-    /// A number below a length or another size; none here comes near the bound of 32768.
+    /// A number below a length or another size. Of a size above 32768 the greatest numbers are never drawn.
     pub fn draw_below(&mut self, size: usize) -> usize {
         self.draw_from(size as u32) as usize
     }
