@@ -108,8 +108,6 @@ pub array-fits : (ps : Parameters) → ps ≡ Array → true ≡ areValues (valu
 unfolding every
 array-fits ps g = rw g
 
-pub ruleset values = (one-fits, text-number-fits, array-number-fits, double-fits, letters-fit, scale-fits, triple-fits, point-fits, corners-fit, text-fits, array-fits)
-
 -- ---- lists
 
 module _ (e : Entry) (es : List ℤ) where

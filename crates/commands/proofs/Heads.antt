@@ -60,8 +60,6 @@ module _ (s : List ℕ) (at : ℕ) {r : LetterRead} (er : letterOf r ≡ letterA
     unfolding headAt headOf letterOf
     first-unknown e h = rw (← er, g, ← e, h)
 
-pub ruleset heads = (second-none, first-none, second-is, second-unknown, first-is, first-unknown)
-
 -- ---- the body
 
 module _ (kept : Remembered) (a b : ℕ) (k : Kind) (s : List ℕ) (start room : ℕ) {r : Look} (er : lookOf r ≡ parametersAt kept (shapeOf k) s (start + 3)) where
@@ -89,8 +87,6 @@ module _ (kept : Remembered) (a b : ℕ) (k : Kind) (s : List ℕ) (start room :
     pub filled-whole : (l : List ℤ) {e : Entry} {o : List ℤ} → w .count ≤ room → e ≡ entryIn (tailOf ps) → o ≡ sets l 0 (entriesFrom e m (w .count) s (w .start)) → o ≡ afterEntries (bodyAt kept a b k s start room) l
     unfolding bodyAt afterEntries lookOf
     filled-whole l h i j = j ∙ rw (i, ← er, g, le-leb (w .count) room h)
-
-pub ruleset bodies = (body-broken, kept-broken, body-short, kept-short, body-whole, filled-whole)
 
 -- ---- the whole command
 
@@ -120,5 +116,3 @@ module _ (kept : Remembered) (s : List ℕ) (start room : ℕ) where
       pub entries-are : (l : List ℤ) {o : List ℤ} → o ≡ afterEntries (bodyAt kept a b k s start room) l → o ≡ afterEntries (commandAt kept s start room) l
       unfolding commandAt headOf
       entries-are l j = rw (lt-ltb start (length s) h, ← er, g) j
-
-pub ruleset commands = (past-end, kept-past, head-none, kept-none, command-is, entries-are)

@@ -153,8 +153,6 @@ module _ (ps : Parameters) (h : areValues (valuesOf ps) ≡ true) where
   pub corners-second : (q : Point) {p : Point} → ps ≡ Corners p q → inside q ≡ true
   corners-second q {p} g = every-two isValue (place q) [] (every-two isValue (place p) (place q ∷ []) (rw g at h) .1) .0
 
-pub ruleset oks = (single-ok, text-number-ok, array-number-ok, double-first, double-second, letters-first, letters-second, triple-first, triple-second, triple-third, point-ok, corners-first, corners-second)
-
 -- the bytes of the values of each kind
 module _ (kept : Remembered) (ps : Parameters) (l o : List ℕ) (at r : ℕ) where
   widened : (w : List ℕ) (k : ℕ) → k ≤ 10 → Poured w k l o at r → Poured w 10 l o at r
@@ -205,5 +203,3 @@ text-none kept ps l at g = rw g (record { size = refl; stand = refl; few = omega
 pub array-none : (kept : Remembered) (ps : Parameters) (l : List ℕ) (at : ℕ) → ps ≡ Array → Poured (spellValues kept (valuesOf ps)) 10 l l at 0
 unfolding spellValues
 array-none kept ps l at g = rw g (record { size = refl; stand = refl; few = omega arith })
-
-pub ruleset values = (single-values, text-values, array-values, double-values, letters-values, scale-values, triple-values, point-values, corners-values, text-none, array-none)

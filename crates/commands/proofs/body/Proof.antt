@@ -1,4 +1,4 @@
-use Rattle.commands.proofs.Heads.{bodies}
+use Rattle.commands.proofs.Heads.{body-short, kept-short, body-whole, filled-whole, body-broken, kept-broken}
 use borrow.Author.Needs.{needs}
 use Rattle.commands.proofs.body.Statement.{statement}
 use Rattle.commands.proofs.body.Tie as tie
@@ -13,7 +13,7 @@ enum-known-ps : tie.Need-enum-known-ps
 enum-known-ps c = search needs
 
 returns : tie.Need-returns
-returns c = search (needs, bodies)
+returns c = search (needs, body-short, kept-short)
 
 entry-kind-requires : tie.Need-entry-kind-requires
 entry-kind-requires c κs = search needs
@@ -28,10 +28,10 @@ same-length : tie.Need-same-length
 same-length c = search needs
 
 returns-2 : tie.Need-returns-2
-returns-2 c = search (needs, bodies)
+returns-2 c = search (needs, body-whole, filled-whole)
 
 returns-3 : tie.Need-returns-3
-returns-3 c = search (needs, bodies)
+returns-3 c = search (needs, body-broken, kept-broken)
 
 pub body-spec : {M : Type 1} → statement M
 body-spec =

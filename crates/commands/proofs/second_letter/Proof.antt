@@ -1,4 +1,4 @@
-use Rattle.commands.proofs.Heads.{heads}
+use Rattle.commands.proofs.Heads.{second-is, second-unknown, second-none}
 use borrow.Author.Needs.{needs}
 use Rattle.commands.proofs.second_letter.Statement.{statement}
 use Rattle.commands.proofs.second_letter.Tie as tie
@@ -22,13 +22,13 @@ enum-known-e : tie.Need-enum-known-e
 enum-known-e c = search needs
 
 returns : tie.Need-returns
-returns c = search (needs, heads)
+returns c = search (needs, second-is)
 
 returns-2 : tie.Need-returns-2
-returns-2 c = search (needs, heads)
+returns-2 c = search (needs, second-unknown)
 
 returns-3 : tie.Need-returns-3
-returns-3 c = search (needs, heads)
+returns-3 c = search (needs, second-none)
 
 pub second-letter-spec : {M : Type 1} → statement M
 second-letter-spec =

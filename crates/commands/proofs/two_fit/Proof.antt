@@ -1,4 +1,4 @@
-use Rattle.commands.proofs.Fitting.{entries}
+use Rattle.commands.proofs.Fitting.{two-entries}
 use borrow.Author.Needs.{needs}
 use Rattle.commands.proofs.two_fit.Statement.{statement}
 use Rattle.commands.proofs.two_fit.Tie as tie
@@ -13,7 +13,7 @@ both-requires : tie.Need-both-requires
 both-requires c κs = search needs
 
 returns : tie.Need-returns
-returns c = search (needs, entries)
+returns c = search (needs, two-entries)
 
 pub two-fit-spec : {M : Type 1} → statement M
 two-fit-spec = tie.close (tie.spec is-entry-requires is-entry-requires-2 both-requires returns)

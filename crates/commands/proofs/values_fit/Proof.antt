@@ -1,4 +1,4 @@
-use Rattle.commands.proofs.Fitting.{values}
+use Rattle.commands.proofs.Fitting.{one-fits, double-fits, triple-fits, point-fits, corners-fit, scale-fits, letters-fit, text-fits, array-fits, text-number-fits, array-number-fits}
 use borrow.Author.Needs.{needs}
 use Rattle.commands.proofs.values_fit.Statement.{statement}
 use Rattle.commands.proofs.values_fit.Tie as tie
@@ -76,37 +76,37 @@ is-entry-requires-4 : tie.Need-is-entry-requires-4
 is-entry-requires-4 c κs = search needs
 
 returns : tie.Need-returns
-returns c = search (needs, values)
+returns c = search (needs, one-fits)
 
 returns-2 : tie.Need-returns-2
-returns-2 c = search (needs, values)
+returns-2 c = search (needs, double-fits)
 
 returns-3 : tie.Need-returns-3
-returns-3 c = search (needs, values)
+returns-3 c = search (needs, triple-fits)
 
 returns-4 : tie.Need-returns-4
-returns-4 c = search (needs, values)
+returns-4 c = search (needs, point-fits)
 
 returns-5 : tie.Need-returns-5
-returns-5 c = search (needs, values)
+returns-5 c = search (needs, corners-fit)
 
 returns-6 : tie.Need-returns-6
-returns-6 c = search (needs, values)
+returns-6 c = search (needs, scale-fits)
 
 returns-7 : tie.Need-returns-7
-returns-7 c = search (needs, values)
+returns-7 c = search (needs, letters-fit)
 
 returns-8 : tie.Need-returns-8
-returns-8 c = search (needs, values)
+returns-8 c = search (needs, text-fits)
 
 returns-9 : tie.Need-returns-9
-returns-9 c = search (needs, values)
+returns-9 c = search (needs, array-fits)
 
 returns-10 : tie.Need-returns-10
-returns-10 c = search (needs, values)
+returns-10 c = search (needs, text-number-fits)
 
 returns-11 : tie.Need-returns-11
-returns-11 c = search (needs, values)
+returns-11 c = search (needs, array-number-fits)
 
 pub values-fit-spec : {M : Type 1} → statement M
 values-fit-spec =
