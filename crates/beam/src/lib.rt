@@ -3,7 +3,7 @@
 ghost use mathlib.Core.Path.{_≡_};
 ghost use Prim.Native.Nat.{min, max};
 ghost use Rattle.beam.specs.Validity.{isSize, isBits, onSurface, inViewport, isValid};
-ghost use Rattle.beam.specs.Settings.{settingOf, settled, makeFresh, bitsFrom, withBits, setBits, framed, setViewport, cornersOn, beamAt, setBeam, stepped, makeStep};
+ghost use Rattle.beam.specs.Settings.{settingOf, settled, makeFresh, bitsFrom, setBits, framed, setViewport, cornersOn, setBeam, stepped, makeStep};
 use memory::Point;
 use refusals::Refusal;
 
@@ -258,5 +258,6 @@ pub fn step(beam: Beam) -> Beam
 pub fn step_on(w: usize, h: usize, beam: Beam) -> Setting
     ensures { λ r. ⌜ settingOf r ≡ makeStep w h beam ⌝ }
 {
-    settle(w, h, beam, true, step(beam))
+    let next = step(beam);
+    settle(w, h, beam, true, next)
 }
