@@ -2,3 +2,4 @@ pub mod RoundTrip
 pub mod Shortest
 pub mod Places
 pub mod Partition
+pub mod Room

@@ -1,0 +1,232 @@
+-- "Refusal 7 comes only for a whole command": with room for 256 entries it never comes, and every item is read.
+use Prim.Native.Nat.{ℕ, zero, suc, _+_, _*_, _%_, _≤_, _<_}
+use mathlib.Core.Path.{_≡_, refl, sym, _∙_, ap, subst}
+use mathlib.Core.Bool.{Bool, true, false}
+use mathlib.Core.List.{List, [], _∷_}
+use native.Mathlib.Omega.{arith}
+use borrow.Author.Tests.{le-ltb, le-leb, leb-true, eqb-true}
+use lib.Dec.{ltb, leb, eqb}
+use lib.ListN.{length, getD}
+use lib.IntN.{ℤ, natAbs}
+use Rattle.memory.specs.declared.Point.{Point}
+use Rattle.memory.specs.declared.Remembered.{Remembered}
+use Rattle.memory.specs.Memory.{inside}
+use Rattle.refusals.specs.Answers.{Answer, done, refused, Read, then, pick, endsAfter}
+use Rattle.refusals.proofs.Cases.{by-pick, done-of, zero-one}
+use Rattle.wire.specs.Taking.{byteAt}
+use Rattle.wire.specs.Taking.{pairAt as escPairAt}
+use Rattle.numbers.specs.Integers.{integerFrom, integerAt, inRange, isNegative, limit}
+use Rattle.numbers.specs.Counts.{countIn, countAt, mostEntries}
+use Rattle.points.specs.declared.PointBytes.{PointBytes}
+use Rattle.points.specs.Layout.{bytesOf}
+use Rattle.points.specs.Reading.{byKind, notAllowed, endsAt, loX, lastAt, afterLoY, afterUpper, afterHiY, pointFrom, pointAt}
+use Rattle.table.specs.declared.Found.{Found}
+use Rattle.table.specs.declared.Found.the-variants.{Is, NoKind}
+use Rattle.table.specs.Table.{kindOf, begins}
+use Rattle.parameters.specs.declared.Entry.{Entry}
+use Rattle.parameters.specs.declared.Entry.the-variants.{AnInteger, ACharacter}
+use Rattle.parameters.specs.Entries.{entryAt, asEntry, Held, runAt}
+use Rattle.parameters.specs.Shapes.{Part, single, real, point, Tail, none, counted, Shape, shapeOf}
+use Rattle.parameters.specs.Looking.{pairAt, Fixed, partAt, fixedAt, tailAt, Parsed, parametersAt}
+use Rattle.commands.specs.Reading.{letterAt, Letters, completed, secondAt, headAt, Meaning, bodyAt, commandAt}
+use Rattle.stream.specs.Items.{Itemed, nothing, text, command, trouble, unread, asItem, commandItem, itemAt}
+use Rattle.laws.proofs.Shortest.{FixedShown, part-good}
+use Rattle.laws.proofs.Places.{after-inside}
+
+-- what is done has P, and what is refused has a number of 1 to 6
+unfoldable Early : {A : Type 0} (P : A → Type 0) → Answer A → Type 0
+Early P (done x) = P x
+Early P (refused e p) = e ≤ 6
+
+early-then : {A B : Type 0} (P : A → Type 0) (Q : B → Type 0) (a : Answer A) (k : A → Answer B) → Early P a → ((x : A) → a ≡ done x → P x → Early Q (k x)) → Early Q (then a k)
+unfolding Early
+early-then P Q (done x) k h next = next x refl h
+early-then P Q (refused e p) k h next = h
+
+-- nothing is asked of what is done
+abbrev Any : {A : Type 0} → A → Type 0
+Any x = Unit {0}
+
+early : {A : Type 0} (P : A → Type 0) (x : A) → P x → Early P (done x)
+unfolding Early
+early P x h = h
+
+low : {A : Type 0} (P : A → Type 0) (e p : ℕ) → e ≤ 6 → Early P (refused e p)
+unfolding Early
+low P e p h = h
+
+module _ (kept : Remembered) (s : List ℕ) where
+  byte-early : (at : ℕ) → Early Any (byteAt kept s at)
+  unfolding byteAt escPairAt
+  byte-early at =
+      by-pick P (ltb at (length s)) _ _
+      (λ t. by-pick P (eqb (getD s at 0) 27) _ _
+      (λ u. by-pick P (ltb (at + 1) (length s)) _ _
+      (λ v. by-pick P (eqb (getD s (at + 1) 0) 63) _ _ (λ w. early Any _ tt) (λ w. low Any 6 _ (omega arith)))
+      (λ v. low Any 1 _ (omega arith)))
+      (λ u. by-pick P (ltb (getD s at 0) 32) _ _ (λ v. low Any 3 _ (omega arith)) (λ v. by-pick P (ltb 127 (getD s at 0)) _ _ (λ w. low Any 3 _ (omega arith)) (λ w. early Any _ tt))))
+      (λ t. low Any 1 _ (omega arith))
+    where
+      P : Answer (Read ℕ) → Type 0
+      P = Early Any
+
+  in-range : (m : ℕ) (t : Bool) (p n : ℕ) → Early Any (inRange m t p n)
+  in-range m t p n = by-pick (Early Any) (leb m (limit t)) _ _ (λ u. early Any _ tt) (λ u. low Any 4 p (omega arith))
+
+  integer-early : (k h at : ℕ) → Early Any (integerFrom kept k h s at)
+  unfolding integerFrom
+  integer-early zero h at =
+      early-then Any Any (byteAt kept s at) _ (byte-early at)
+      (λ b e q. by-pick (Early Any) (ltb (b .value) 64) _ _ (λ l. in-range (h * 16 + b .value % 16) (ltb (b .value) 48) (b .place) (b .next)) (λ l. low Any 4 _ (omega arith)))
+  integer-early (suc k) h at =
+      early-then Any Any (byteAt kept s at) _ (byte-early at)
+      (λ b e q. by-pick (Early Any) (ltb (b .value) 64) _ _ (λ l. in-range (h * 16 + b .value % 16) (ltb (b .value) 48) (b .place) (b .next)) (λ l. integer-early k (h * 64 + b .value % 64) (b .next)))
+
+  abbrev Few : Read ℕ → Type 0
+  Few c = c .value ≤ 256
+
+  count-early : (at : ℕ) → Early Few (countAt kept s at)
+  unfolding countIn
+  count-early at =
+      early-then Any Few (integerAt kept s at) _ (integer-early 2 0 at)
+      (λ r e q. by-pick (Early Few) (isNegative (r .value)) _ _
+      (λ t. low Few 5 _ (omega arith))
+      (λ t. by-pick (Early Few) (leb (natAbs (r .value)) 256) _ _ (λ u. early Few _ (leb-true (natAbs (r .value)) 256 u)) (λ u. low Few 5 _ (omega arith))))
+
+  -- ---- points
+
+  kind-early : (at : ℕ) (hi lo upper : Read ℕ → Answer (Read Point)) → ((b : Read ℕ) → Early Any (hi b)) → ((b : Read ℕ) → Early Any (lo b)) → ((b : Read ℕ) → Early Any (upper b)) → Early Any (byKind kept s at hi lo upper)
+  unfolding byKind
+  kind-early at hi lo upper f g h =
+      early-then Any Any (byteAt kept s at) _ (byte-early at)
+      (λ b e q. by-pick (Early Any) (ltb (b .value) 64) _ _ (λ u. f b) (λ u. by-pick (Early Any) (ltb (b .value) 96) _ _ (λ v. g b) (λ v. h b)))
+
+  not-here : (b : Read ℕ) → Early Any (notAllowed b)
+  not-here b = low Any 3 _ (omega arith)
+
+  lo-early : (c : PointBytes) (b : Read ℕ) → Early Any (loX c b)
+  unfolding endsAt
+  lo-early c b = early Any _ tt
+
+  last-early : (c : PointBytes) (at : ℕ) → Early Any (lastAt kept c s at)
+  unfolding lastAt
+  last-early c at = kind-early at _ _ _ not-here (lo-early c) not-here
+
+  lo-y-early : (c : PointBytes) (at : ℕ) → Early Any (afterLoY kept c s at)
+  unfolding afterLoY
+  lo-y-early c at = kind-early at _ _ _ (λ b. last-early _ (b .next)) (lo-early c) not-here
+
+  upper-early : (c : PointBytes) (u at : ℕ) → Early Any (afterUpper kept c u s at)
+  unfolding afterUpper
+  upper-early c u at = kind-early at _ _ _ (λ b. last-early _ (b .next)) (lo-early _) (λ b. lo-y-early _ (b .next))
+
+  hi-y-early : (c : PointBytes) (at : ℕ) → Early Any (afterHiY kept c s at)
+  unfolding afterHiY
+  hi-y-early c at = kind-early at _ _ _ not-here (lo-early c) (λ b. upper-early c (b .value) (b .next))
+
+  point-early : (at : ℕ) → inside (kept .point) ≡ true → Early Any (pointAt kept s at)
+  unfolding pointAt pointFrom
+  point-early at j = rw j (kind-early at _ _ _ (λ b. hi-y-early _ (b .next)) (lo-early _) (λ b. upper-early _ (b .value) (b .next)))
+
+  -- ---- entries
+
+  entry-early : (e : Entry) (at : ℕ) → Early Any (entryAt e kept s at)
+  unfolding entryAt
+  entry-early AnInteger at = integer-early 2 0 at
+  entry-early ACharacter at = early-then Any Any (byteAt kept s at) asEntry (byte-early at) (λ b e q. early Any _ tt)
+
+  entries-early : (e : Entry) (k at : ℕ) → Early Any (endsAfter (entryAt e kept s) k at)
+  unfolding endsAfter
+  entries-early e zero at = early Any at tt
+  entries-early e (suc k) at = early-then Any Any (entryAt e kept s at) _ (entry-early e at) (λ r q x. entries-early e k (r .next))
+
+  abbrev FewHeld : Held → Type 0
+  FewHeld h = h .count ≤ 256
+
+  tail-early : (t : Tail) (at : ℕ) → Early FewHeld (tailAt kept t s at)
+  unfolding tailAt runAt
+  tail-early none at = early FewHeld _ (omega arith)
+  tail-early (counted e) at =
+      early-then Few FewHeld (countAt kept s at) _ (count-early at)
+      (λ c q h. early-then Any FewHeld (endsAfter (entryAt e kept s) (c .value) (c .next)) _ (entries-early e (c .value) (c .next)) (λ n x y. early FewHeld _ h))
+
+  part-early : (p : Part) (at : ℕ) → inside (kept .point) ≡ true → Early Any (partAt kept p s at)
+  unfolding partAt pairAt
+  part-early (single e) at j = early-then Any Any (entryAt e kept s at) _ (entry-early e at) (λ r q x. early Any _ tt)
+  part-early real at j =
+      early-then Any Any _ _
+      (early-then Any Any (entryAt AnInteger kept s at) _ (entry-early AnInteger at)
+      (λ a q x. early-then Any Any (entryAt AnInteger kept s (a .next)) _ (entry-early AnInteger (a .next)) (λ b y z. early Any _ tt)))
+      (λ r q x. early Any _ tt)
+  part-early point at j = early-then Any Any (pointAt kept s at) _ (point-early at j) (λ r q x. early Any _ tt)
+
+-- ---- the whole command
+
+fixed-early : (kept : Remembered) (ps : List Part) (s : List ℕ) (at : ℕ) → inside (kept .point) ≡ true → Early Any (fixedAt kept ps s at)
+unfolding fixedAt
+fixed-early kept [] s at j = early Any _ tt
+fixed-early kept (p ∷ ps) s at j =
+    early-then Any Any (partAt kept p s at) _ (part-early kept s p at j)
+    (λ f e x.
+    let a = done-of (FixedShown kept (p ∷ []) s at) (part-good kept p s at) e in
+    let n : inside (f .kept .point) ≡ true = ap (λ (k : Remembered). inside (k .point)) (a .kept-is) ∙ after-inside kept (f .values) j (a .writable) in
+    early-then Any Any (fixedAt (f .kept) ps s (f .next)) _ (fixed-early (f .kept) ps s (f .next) n) (λ g q y. early Any _ tt))
+
+abbrev FewParsed : Parsed → Type 0
+FewParsed p = p .count ≤ 256
+
+parameters-early : (kept : Remembered) (shape : Shape) (s : List ℕ) (at : ℕ) → inside (kept .point) ≡ true → Early FewParsed (parametersAt kept shape s at)
+unfolding parametersAt
+parameters-early kept shape s at j =
+    early-then Any FewParsed (fixedAt kept (shape .fixed) s at) _ (fixed-early kept (shape .fixed) s at j)
+    (λ f e x. early-then (FewHeld (f .kept) s) FewParsed (tailAt (f .kept) (shape .tail) s (f .next)) _ (tail-early (f .kept) s (shape .tail) (f .next)) (λ h q y. early FewParsed _ y))
+
+letter-early : (s : List ℕ) (at : ℕ) → Early Any (letterAt s at)
+unfolding letterAt
+letter-early s at =
+    by-pick (Early Any) (ltb at (length s)) _ _
+    (λ t. by-pick (Early Any) (eqb (getD s at 0) 27) _ _ (λ u. low Any 6 _ (omega arith)) (λ u. early Any _ tt))
+    (λ t. low Any 1 _ (omega arith))
+
+completed-early : (a b p : ℕ) (f : Found) → Early Any (completed a b p f)
+completed-early a b p (Is k) = early Any _ tt
+completed-early a b p NoKind = low Any 2 p (omega arith)
+
+head-early : (s : List ℕ) (at : ℕ) → Early Any (headAt s at)
+unfolding headAt secondAt
+head-early s at =
+    early-then Any Any (letterAt s at) _ (letter-early s at)
+    (λ a e x. by-pick (Early Any) (begins a) _ _
+    (λ t. early-then Any Any (letterAt s (at + 1)) _ (letter-early s (at + 1)) (λ b q y. completed-early a b (at + 1) (kindOf a b)))
+    (λ t. low Any 2 at (omega arith)))
+
+module _ (kept : Remembered) (s : List ℕ) (start room : ℕ) (j : inside (kept .point) ≡ true) (h : 256 ≤ room) where
+  command-early : Early Any (commandAt kept s start room)
+  unfolding commandAt bodyAt
+  command-early =
+      by-pick (Early Any) (ltb start (length s)) _ _
+      (λ t. early-then Any Any (headAt s (start + 1)) _ (head-early s (start + 1))
+      (λ l e x. early-then FewParsed Any (parametersAt kept (shapeOf (l .kind)) s (start + 3)) _ (parameters-early kept (shapeOf (l .kind)) s (start + 3) j)
+      (λ p q few. rw (le-leb (p .count) room (omega (arith, few, h))) (early Any _ tt))))
+      (λ t. low Any 1 _ (omega arith))
+
+  -- no item is left unread
+  AsRead : Itemed Meaning → Type 0
+  AsRead nothing = Unit {0}
+  AsRead (text b n) = Unit {0}
+  AsRead (command m) = Unit {0}
+  AsRead (trouble e p n k) = Unit {0}
+  AsRead (unread e p) = ⊥
+
+  item-read : (a : Answer Meaning) → Early Any a → AsRead (asItem kept s a)
+  unfolding Early AsRead
+  item-read (done m) e = tt
+  item-read (refused e p) q = by-pick AsRead (eqb e 7) _ _ (λ t. let z : e ≡ 7 = eqb-true e 7 t in omega (arith, z, q)) (λ t. tt)
+
+  pub always-read : start ≤ length s → {e p : ℕ} → itemAt kept s start room ≡ unread e p → ⊥
+  unfolding itemAt commandItem AsRead
+  always-read l g = subst AsRead g
+      (rw (le-ltb (length s) start l, j)
+      (by-pick AsRead (ltb start (length s)) _ _
+      (λ t. by-pick AsRead (eqb (getD s start 0) 27) _ _ (λ u. item-read (commandAt kept s start room) command-early) (λ u. tt))
+      (λ t. tt)))
