@@ -1,0 +1,183 @@
+-- "Macros": a store as a list of entries and as bytes, and what defining and looking up make of it.
+use Prim.Native.Nat.{ℕ, zero, suc, _+_, _-_, _*_, _/_, _%_, _≤_}
+use mathlib.Core.Path.{_≡_}
+use mathlib.Core.Bool.{Bool, true, _&&_}
+use mathlib.Core.List.{List, [], _∷_, _++_, map}
+use lib.ListN.{length, getD, take, drop, replicate}
+use lib.Dec.{leb, ltb, eqb}
+use lib.IntN.{ℤ, natAbs}
+use Rattle.refusals.specs.Refusals.{numberOf}
+use Rattle.refusals.specs.Answers.{pick, demand, every}
+use Rattle.ranges.specs.Ranges.{within}
+use Rattle.macros.specs.declared.Defining.{Defining}
+use Rattle.macros.specs.declared.Defining.the-variants.{Defined, NotDefined}
+use Rattle.macros.specs.declared.Finding.{Finding}
+use Rattle.macros.specs.declared.Finding.the-variants.{Found, NotFound}
+
+pub record Entry : Type 0 where
+  pub number : ℕ
+  pub body : List ℕ
+
+-- ---- the header: all that knows its bytes
+
+pub record Layout : Type 0 where
+  -- its bytes, and the longest body
+  pub size : ℕ
+  pub longest : ℕ
+  -- the header of a number and a body's length
+  pub pack : (number long : ℕ) → List ℕ
+  -- the number and the length in the header at the front of bytes; its spare bits, where it has any, are zero
+  pub numberIn : List ℕ → ℕ
+  pub lengthIn : List ℕ → ℕ
+  pub spareZero : List ℕ → Bool
+
+-- "three bytes, bit-packed, most significant first": as one number
+abbrev pub threeIn : List ℕ → ℕ
+threeIn s = getD s 0 0 * 65536 + getD s 1 0 * 256 + getD s 2 0
+
+abbrev pub threeOf : ℕ → List ℕ
+threeOf v = v / 65536 ∷ v / 256 % 256 ∷ v % 256 ∷ []
+
+-- "15 bits of number, 9 bits of body length 1..256"
+unfoldable pub threeBytes : Layout
+threeBytes = record {
+  size = 3;
+  longest = 256;
+  pack = λ number long. threeOf (number * 512 + long);
+  numberIn = λ s. threeIn s / 512;
+  lengthIn = λ s. threeIn s % 512;
+  spareZero = λ s. true;
+}
+
+-- ---- from entries to bytes
+
+-- an entry is its header; "the body follows"
+unfoldable pub encoded : Layout → List Entry → List ℕ
+encoded L [] = []
+encoded L (e ∷ es) = L .pack (e .number) (length (e .body)) ++ (e .body ++ encoded L es)
+
+abbrev pub sizeOf : Layout → List Entry → ℕ
+sizeOf L es = length (encoded L es)
+
+-- "the rest of the store is all zeros"
+abbrev pub stored : Layout → (room : ℕ) → List Entry → List ℕ
+stored L room es = encoded L es ++ replicate (room - sizeOf L es) 0
+
+-- ---- from bytes to entries
+
+abbrev pub atMost : ℕ → ℕ → Bool
+atMost most b = leb b most
+
+-- "bytes 0..127"
+abbrev pub areBody : List ℕ → Bool
+areBody bs = every (atMost 127) bs
+
+abbrev pub areZeros : List ℕ → Bool
+areZeros bs = every (atMost 0) bs
+
+abbrev pub bodyIn : Layout → List ℕ → List ℕ
+bodyIn L s = take (L .lengthIn s) (drop (L .size) s)
+
+-- an entry at the front of the bytes that may stand there: whole, a body of 1 byte to the longest, and a number from least on
+unfoldable pub isEntry : Layout → (least : ℕ) → List ℕ → Bool
+isEntry L least s =
+    leb (L .size) (length s)
+    && (leb 1 (L .lengthIn s)
+    && (leb (L .lengthIn s) (L .longest)
+    && (leb (L .size + L .lengthIn s) (length s) && (L .spareZero s && (leb least (L .numberIn s) && areBody (bodyIn L s))))))
+
+-- the entries at the front of the bytes, "in rising macro number, each number once", as far as they go; there are at most k
+unfoldable pub entriesFrom : Layout → (k least : ℕ) → List ℕ → List Entry
+entriesFrom L zero least s = []
+entriesFrom L (suc k) least s =
+    pick (isEntry L least s)
+    (record { number = L .numberIn s; body = bodyIn L s } ∷ entriesFrom L k (L .numberIn s + 1) (drop (L .size + L .lengthIn s) s))
+    []
+
+-- an entry takes at least one byte
+abbrev pub entries : Layout → List ℕ → List Entry
+entries L s = entriesFrom L (length s) 0 s
+
+-- "A store is entries [..]. The rest of the store is all zeros. A store of length 0 is empty and well formed."
+unfoldable pub wellFormed : Layout → List ℕ → Bool
+wellFormed L s = areZeros (drop (sizeOf L (entries L s)) s)
+
+-- ---- a list of entries
+
+unfoldable pub keep : (ℕ → Bool) → List Entry → List Entry
+keep p [] = []
+keep p (e ∷ es) = pick (p (e .number)) (e ∷ keep p es) (keep p es)
+
+abbrev pub below : ℕ → List Entry → List Entry
+below n es = keep (λ x. ltb x n) es
+
+abbrev pub above : ℕ → List Entry → List Entry
+above n es = keep (λ x. ltb n x) es
+
+-- "An empty array deletes"
+abbrev pub one : ℕ → List ℕ → List Entry
+one n [] = []
+one n (b ∷ bs) = record { number = n; body = b ∷ bs } ∷ []
+
+-- "A new body replaces the old one": the entries below the number, the new one, and the entries above it
+abbrev pub put : ℕ → List ℕ → List Entry → List Entry
+put n body es = below n es ++ (one n body ++ above n es)
+
+-- the body of a macro; none where it is absent, since a body has at least one byte
+unfoldable pub bodyOf : ℕ → List Entry → List ℕ
+bodyOf n [] = []
+bodyOf n (e ∷ es) = pick (eqb (e .number) n) (e .body) (bodyOf n es)
+
+-- ---- defining
+
+-- "Numbers 0..32767, contents 0..127, at most 256 of them, else 8."
+abbrev pub isNumber : ℤ → Bool
+isNumber n = within 0 32767 n
+
+unfoldable pub mayDefine : Layout → ℤ → List ℤ → Bool
+mayDefine L n contents = isNumber n && (leb (length contents) (L .longest) && every (within 0 127) contents)
+
+-- the new entries
+abbrev pub entriesAfter : Layout → List ℕ → ℤ → List ℤ → List Entry
+entriesAfter L s n contents = put (natAbs n) (map natAbs contents) (entries L s)
+
+-- "13 is given exactly if the new entries together exceed the store. Order: 12, 8, 13."
+unfoldable pub defineRefusal : Layout → List ℕ → ℤ → List ℤ → ℕ
+defineRefusal L s n contents =
+    demand (wellFormed L s) 12 (demand (mayDefine L n contents) 8 (demand (leb (sizeOf L (entriesAfter L s n contents)) (length s)) 13 0))
+
+-- refused, the store is as it was
+unfoldable pub storeAfter : Layout → List ℕ → ℤ → List ℤ → List ℕ
+storeAfter L s n contents =
+    pick (eqb (defineRefusal L s n contents) 0) (stored L (length s) (entriesAfter L s n contents)) s
+
+-- what the answer says: 0 or the refusal's number
+unfoldable pub definingOf : Defining → ℕ
+definingOf Defined = 0
+definingOf (NotDefined e) = numberOf e
+
+-- ---- looking up
+
+abbrev pub orElse : List ℕ → List ℕ → List ℕ
+orElse [] other = other
+orElse (b ∷ bs) other = b ∷ bs
+
+-- "the body as part of the volatile store if it is there, otherwise as part of the saved store"
+abbrev pub bodyInEither : Layout → (volatile saved : List ℕ) → ℕ → List ℕ
+bodyInEither L volatile saved n = orElse (bodyOf n (entries L volatile)) (bodyOf n (entries L saved))
+
+abbrev pub bothFormed : Layout → (volatile saved : List ℕ) → Bool
+bothFormed L volatile saved = wellFormed L volatile && wellFormed L saved
+
+-- "a malformed store, an outside number or an absent macro gives an empty part"
+unfoldable pub lookedUp : Layout → (volatile saved : List ℕ) → ℤ → List ℕ
+lookedUp L volatile saved n = pick (bothFormed L volatile saved && isNumber n) (bodyInEither L volatile saved (natAbs n)) []
+
+-- "a companion answer says 12, 8 or 14 in that order"
+unfoldable pub findRefusal : Layout → (volatile saved : List ℕ) → ℤ → ℕ
+findRefusal L volatile saved n =
+    demand (bothFormed L volatile saved) 12 (demand (isNumber n) 8 (demand (leb 1 (length (bodyInEither L volatile saved (natAbs n)))) 14 0))
+
+unfoldable pub findingOf : Finding → ℕ
+findingOf Found = 0
+findingOf (NotFound e) = numberOf e
