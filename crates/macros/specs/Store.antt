@@ -163,21 +163,22 @@ orElse [] other = other
 orElse (b ∷ bs) other = b ∷ bs
 
 -- "the body as part of the volatile store if it is there, otherwise as part of the saved store"
-abbrev pub bodyInEither : Layout → (volatile saved : List ℕ) → ℕ → List ℕ
+unfoldable pub bodyInEither : Layout → (volatile saved : List ℕ) → ℕ → List ℕ
 bodyInEither L volatile saved n = orElse (bodyOf n (entries L volatile)) (bodyOf n (entries L saved))
 
-abbrev pub bothFormed : Layout → (volatile saved : List ℕ) → Bool
-bothFormed L volatile saved = wellFormed L volatile && wellFormed L saved
+-- "12, 8 or 14 in that order": a malformed store, an outside number, and then what comes next
+unfoldable pub lookRefusal : Layout → (volatile saved : List ℕ) → ℤ → (next : ℕ) → ℕ
+lookRefusal L volatile saved n next = demand (wellFormed L volatile && wellFormed L saved) 12 (demand (isNumber n) 8 next)
+
+-- "an absent macro"
+unfoldable pub findRefusal : Layout → (volatile saved : List ℕ) → ℤ → ℕ
+findRefusal L volatile saved n = lookRefusal L volatile saved n (demand (leb 1 (length (bodyInEither L volatile saved (natAbs n)))) 14 0)
 
 -- "a malformed store, an outside number or an absent macro gives an empty part"
 unfoldable pub lookedUp : Layout → (volatile saved : List ℕ) → ℤ → List ℕ
-lookedUp L volatile saved n = pick (bothFormed L volatile saved && isNumber n) (bodyInEither L volatile saved (natAbs n)) []
+lookedUp L volatile saved n = pick (eqb (findRefusal L volatile saved n) 0) (bodyInEither L volatile saved (natAbs n)) []
 
--- "a companion answer says 12, 8 or 14 in that order"
-unfoldable pub findRefusal : Layout → (volatile saved : List ℕ) → ℤ → ℕ
-findRefusal L volatile saved n =
-    demand (bothFormed L volatile saved) 12 (demand (isNumber n) 8 (demand (leb 1 (length (bodyInEither L volatile saved (natAbs n)))) 14 0))
-
+-- what the companion answer says: 0 or the refusal's number
 unfoldable pub findingOf : Finding → ℕ
 findingOf Found = 0
 findingOf (NotFound e) = numberOf e

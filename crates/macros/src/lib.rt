@@ -8,7 +8,7 @@ ghost use lib.ListN.{length, getD, take, drop, replicate};
 ghost use lib.Seq.{sets};
 ghost use lib.IntN.{natAbs};
 ghost use Rattle.refusals.specs.Answers.{every};
-ghost use Rattle.macros.specs.Store.{threeBytes, atMost, sizeOf, entries, wellFormed, below, one, encoded, bodyOf, mayDefine, defineRefusal, storeAfter, definingOf, lookedUp, findRefusal, findingOf};
+ghost use Rattle.macros.specs.Store.{threeBytes, atMost, sizeOf, entries, wellFormed, below, one, encoded, bodyOf, mayDefine, defineRefusal, storeAfter, definingOf, bodyInEither, lookRefusal, lookedUp, findRefusal, findingOf};
 ghost use Rattle.macros.specs.Fronts.{HeaderIs, FrontIs};
 use refusals::Refusal;
 
@@ -169,6 +169,65 @@ fn body_in(store: &[u8], number: usize) -> &[u8]
             Front::NoEntry => {
                 return &store[..0];
             }
+        }
+    }
+}
+
+// ---- looking up
+
+// "a malformed store, an outside number or an absent macro": whether look up may look.
+fn verdict(volatile: &[u8], saved: &[u8], number: i32) -> Finding
+    ensures { λ r. ⌜ findingOf r ≡ lookRefusal threeBytes (now (volatile .entry)) (now (saved .entry)) number 0 ⌝ }
+{
+    if !is_well_formed(volatile) {
+        return Finding::NotFound(Refusal::StoreMalformed);
+    }
+    if !is_well_formed(saved) {
+        return Finding::NotFound(Refusal::StoreMalformed);
+    }
+    if ranges::is_within(0, 32767, number) {
+        return Finding::Found;
+    }
+    Finding::NotFound(Refusal::NotValid)
+}
+
+// The body as part of the volatile store if it is there, otherwise as part of the saved store.
+fn body_in_either<'a>(volatile: &'a [u8], saved: &'a [u8], number: usize) -> &'a [u8]
+    ensures { λ r. ⌜ now r ≡ bodyInEither threeBytes (now (volatile .entry)) (now (saved .entry)) number ⌝ }
+{
+    let body = body_in(volatile, number);
+    if body.len() > 0 {
+        return body;
+    }
+    body_in(saved, number)
+}
+
+// The body of a macro; an empty part where `found` does not say that it is found.
+pub fn look_up<'a>(volatile: &'a [u8], saved: &'a [u8], number: i32) -> &'a [u8]
+    ensures { λ r. ⌜ now r ≡ lookedUp threeBytes (now (volatile .entry)) (now (saved .entry)) number ⌝ }
+{
+    match verdict(volatile, saved, number) {
+        Finding::NotFound(_) => &saved[..0],
+        Finding::Found => {
+            let n = numbers::magnitude(number) as usize;
+            body_in_either(volatile, saved, n)
+        }
+    }
+}
+
+// Whether look up finds a body: 12, 8 and 14, in that order.
+pub fn found<'a>(volatile: &'a [u8], saved: &'a [u8], number: i32) -> Finding
+    ensures { λ r. ⌜ findingOf r ≡ findRefusal threeBytes (now (volatile .entry)) (now (saved .entry)) number ⌝ }
+{
+    match verdict(volatile, saved, number) {
+        Finding::NotFound(refusal) => Finding::NotFound(refusal),
+        Finding::Found => {
+            let n = numbers::magnitude(number) as usize;
+            let body = body_in_either(volatile, saved, n);
+            if body.len() > 0 {
+                return Finding::Found;
+            }
+            Finding::NotFound(Refusal::NoSuchMacro)
         }
     }
 }
