@@ -6,10 +6,7 @@ use mathlib.Core.List.{List, [], _∷_, _++_}
 use native.Mathlib.Omega.{arith}
 use lib.ListN.{length, getD, drop, replicate}
 use Rattle.macros.specs.Store.{Layout, threeBytes}
-
--- every element is a byte, as those of a slice of u8 are
-unfoldable pub Bytes : List ℕ → Type 0
-Bytes s = (i : ℕ) → getD s i 0 ≤ 255
+use Rattle.macros.specs.Fronts.{Bytes}
 
 pub record Lawful (L : Layout) : Type 0 where
   pub sized : (n l : ℕ) → length (L .pack n l) ≡ L .size

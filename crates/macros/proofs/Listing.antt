@@ -13,7 +13,8 @@ use lib.Seq.{getD-drop, drop-drop, take-append-seam, drop-append-seam, drop-at}
 use Rattle.refusals.specs.Answers.{every, pick}
 use Rattle.refusals.proofs.Cases.{and-left, and-right, bool-apart}
 use Rattle.macros.specs.Store.{Entry, Layout, encoded, sizeOf, stored, atMost, areBody, areZeros, bodyIn, isEntry, entriesFrom, entries, wellFormed, keep, below, above, one, put, bodyOf}
-use Rattle.macros.proofs.Layouts.{Bytes, Lawful}
+use Rattle.macros.specs.Fronts.{Bytes}
+use Rattle.macros.proofs.Layouts.{Lawful}
 use Rattle.macros.proofs.Reading.{Stands, stands, body-long, entryIn, behind, first-entry, no-entry, size-cons, size-nil}
 
 -- ---- what a list of entries must be

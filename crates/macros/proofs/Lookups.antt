@@ -18,28 +18,30 @@ use Rattle.refusals.specs.Refusals.{numberOf}
 use Rattle.refusals.specs.Answers.{pick, demand}
 use Rattle.refusals.proofs.Numbers.{not-nought}
 use Rattle.ranges.specs.Ranges.{within}
-use Rattle.macros.specs.declared.Finding.{Finding}
+use Rattle.macros.specs.declared.Verdict.{Verdict}
+use Rattle.macros.specs.declared.Verdict.the-variants.{Allowed, Refused}
 use Rattle.macros.specs.declared.Finding.the-variants.{Found, NotFound}
 use Rattle.macros.specs.Store.{Layout, entries, wellFormed, isNumber, bodyOf, orElse, bodyInEither, lookRefusal, findRefusal, lookedUp, findingOf}
+use Rattle.macros.specs.Fronts.{verdictOf}
 
 module _ (L : Layout) (v s : List ℕ) (n : ℤ) {a : Bool} (ea : a ≡ wellFormed L v) where
-  pub first-malformed : not a ≡ true → findingOf (NotFound StoreMalformed) ≡ lookRefusal L v s n 0
-  unfolding findingOf lookRefusal
+  pub first-malformed : not a ≡ true → verdictOf (Refused StoreMalformed) ≡ lookRefusal L v s n 0
+  unfolding verdictOf lookRefusal
   first-malformed t = rw (sym ea ∙ not-true a t)
 
   module _ (t : not a ≡ false) {b : Bool} (eb : b ≡ wellFormed L s) where
-    pub second-malformed : not b ≡ true → findingOf (NotFound StoreMalformed) ≡ lookRefusal L v s n 0
-    unfolding findingOf lookRefusal
+    pub second-malformed : not b ≡ true → verdictOf (Refused StoreMalformed) ≡ lookRefusal L v s n 0
+    unfolding verdictOf lookRefusal
     second-malformed u = rw (sym ea ∙ not-false a t, sym eb ∙ not-true b u)
 
     -- the number comes back from the callee's contract as the machine reads it
     module _ (u : not b ≡ false) (f : SFits w32 n) {k : Bool} (ek : k ≡ within 0 32767 (toZ w32 (ofZ w32 n))) where
-      pub may-look : k ≡ true → findingOf Found ≡ lookRefusal L v s n 0
-      unfolding findingOf lookRefusal
+      pub may-look : k ≡ true → verdictOf Allowed ≡ lookRefusal L v s n 0
+      unfolding verdictOf lookRefusal
       may-look e = rw (sym ea ∙ not-false a t, sym eb ∙ not-false b u, sym (rw (toZ-ofZ f) at ek) ∙ e)
 
-      pub outside : k ≡ false → findingOf (NotFound NotValid) ≡ lookRefusal L v s n 0
-      unfolding findingOf lookRefusal
+      pub outside : k ≡ false → verdictOf (Refused NotValid) ≡ lookRefusal L v s n 0
+      unfolding verdictOf lookRefusal
       outside e = rw (sym ea ∙ not-false a t, sym eb ∙ not-false b u, sym (rw (toZ-ofZ f) at ek) ∙ e)
 
 pub ruleset looks = (first-malformed, second-malformed, may-look, outside)
@@ -65,44 +67,36 @@ module _ (L : Layout) (v s : List ℕ) (n : ℕ) {b : List ℕ} (eb : b ≡ body
 
 -- ---- the two calls
 
-module _ (L : Layout) (v s : List ℕ) (n : ℤ) where
-  stands : (k next : ℕ) → eqb k 0 ≡ false → lookRefusal L v s n 0 ≡ k → lookRefusal L v s n next ≡ k
-  unfolding lookRefusal
-  stands k next z e = go (wellFormed L v && wellFormed L s) (isNumber n) e
-    where
-      go : (a b : Bool) → demand a 12 (demand b 8 0) ≡ k → demand a 12 (demand b 8 next) ≡ k
-      go true true q = absurd (eqb-false k 0 z (sym q))
-      go true false q = q
-      go false b q = q
+-- what the first two tests refused stays refused; where they do not, the answer is that of what comes next
+pub refused-before : (a b : Bool) (k next : ℕ) → eqb k 0 ≡ false → demand a 12 (demand b 8 0) ≡ k → demand a 12 (demand b 8 next) ≡ k
+refused-before true true k next z q = absurd (eqb-false k 0 z (sym q))
+refused-before true false k next z q = q
+refused-before false b k next z q = q
 
-  goes-on : (next : ℕ) → lookRefusal L v s n 0 ≡ 0 → lookRefusal L v s n next ≡ next
-  unfolding lookRefusal
-  goes-on next e = go (wellFormed L v && wellFormed L s) (isNumber n) e
-    where
-      go : (a b : Bool) → demand a 12 (demand b 8 0) ≡ 0 → demand a 12 (demand b 8 next) ≡ next
-      go true true q = refl
-      go true false q = absurd (omega (arith, q))
-      go false b q = absurd (omega (arith, q))
+pub goes-on : (a b : Bool) (next : ℕ) → demand a 12 (demand b 8 0) ≡ 0 → demand a 12 (demand b 8 next) ≡ next
+goes-on true true next q = refl
+goes-on true false next q = absurd (omega (arith, q))
+goes-on false b next q = absurd (omega (arith, q))
 
-module _ (L : Layout) (v s : List ℕ) (n : ℤ) (f : SFits w32 n) (r : Finding) (er : findingOf r ≡ lookRefusal L v s (toZ w32 (ofZ w32 n)) 0) where
-  said : findingOf r ≡ lookRefusal L v s n 0
+module _ (L : Layout) (v s : List ℕ) (n : ℤ) (f : SFits w32 n) (r : Verdict) (er : verdictOf r ≡ lookRefusal L v s (toZ w32 (ofZ w32 n)) 0) where
+  said : verdictOf r ≡ lookRefusal L v s n 0
   said = rw (toZ-ofZ f) at er
 
-  pub not-looked : (e : Refusal) → r ≡ NotFound e → findingOf (NotFound e) ≡ findRefusal L v s n
-  unfolding findingOf findRefusal
-  not-looked e g = sym (stands L v s n (numberOf e) _ (not-nought e) (sym said ∙ rw g))
+  pub not-looked : (e : Refusal) → r ≡ Refused e → findingOf (NotFound e) ≡ findRefusal L v s n
+  unfolding findingOf findRefusal verdictOf lookRefusal
+  not-looked e g = sym (refused-before (wellFormed L v && wellFormed L s) (isNumber n) (numberOf e) _ (not-nought e) (sym said ∙ rw g))
 
-  pub empty-part : (e : Refusal) → r ≡ NotFound e → [] ≡ lookedUp L v s n
+  pub empty-part : (e : Refusal) → r ≡ Refused e → [] ≡ lookedUp L v s n
   unfolding findingOf lookedUp
   empty-part e g = rw (← not-looked e g, not-nought e)
 
-  module _ (g : r ≡ Found) {k : ℕ} (ek : k ≡ natAbs (toZ w32 (ofZ w32 n))) {b : List ℕ} (eb : b ≡ bodyInEither L v s k) where
+  module _ (g : r ≡ Allowed) {k : ℕ} (ek : k ≡ natAbs (toZ w32 (ofZ w32 n))) {b : List ℕ} (eb : b ≡ bodyInEither L v s k) where
     found-body : b ≡ bodyInEither L v s (natAbs n)
     found-body = eb ∙ ap (bodyInEither L v s) (rw (toZ-ofZ f) at ek)
 
     last : findRefusal L v s n ≡ demand (leb 1 (length b)) 14 0
-    unfolding findRefusal findingOf
-    last = goes-on L v s n _ (sym said ∙ rw g) ∙ ap (λ (x : List ℕ). demand (leb 1 (length x)) 14 0) (sym found-body)
+    unfolding findRefusal verdictOf lookRefusal
+    last = goes-on (wellFormed L v && wellFormed L s) (isNumber n) _ (sym said ∙ rw g) ∙ ap (λ (x : List ℕ). demand (leb 1 (length x)) 14 0) (sym found-body)
 
     pub is-found : 0 < length b → findingOf Found ≡ findRefusal L v s n
     unfolding findingOf

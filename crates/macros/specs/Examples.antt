@@ -6,7 +6,7 @@ use mathlib.Core.List.{List, [], _∷_, map}
 use lib.ListN.{replicate}
 use lib.IntN.{ℤ, pos}
 use Rattle.refusals.specs.Answers.{every}
-use Rattle.macros.specs.Store.{threeBytes, encoded, isEntry, entriesFrom, wellFormed, keep, bodyOf, mayDefine, defineRefusal, storeAfter, bodyInEither, lookRefusal, lookedUp, findRefusal}
+use Rattle.macros.specs.Store.{threeBytes, encoded, isEntry, entriesFrom, wellFormed, keep, bodyOf, mayDefine, beforeRoom, defineRefusal, storeAfter, bodyInEither, lookRefusal, lookedUp, findRefusal}
 
 pub record Row : Type 0 where
   pub given : List ℕ
@@ -53,5 +53,5 @@ paper-of r = r .paper
 
 -- the one claim
 pub all-as-set : map given-of examples ≡ map paper-of examples
-unfolding threeBytes encoded isEntry entriesFrom wellFormed keep bodyOf mayDefine defineRefusal storeAfter bodyInEither lookRefusal lookedUp findRefusal every
+unfolding threeBytes encoded isEntry entriesFrom wellFormed keep bodyOf mayDefine beforeRoom defineRefusal storeAfter bodyInEither lookRefusal lookedUp findRefusal every
 all-as-set = refl

@@ -141,10 +141,13 @@ mayDefine L n contents = isNumber n && (leb (length contents) (L .longest) && ev
 abbrev pub entriesAfter : Layout → List ℕ → ℤ → List ℤ → List Entry
 entriesAfter L s n contents = put (natAbs n) (map natAbs contents) (entries L s)
 
--- "13 is given exactly if the new entries together exceed the store. Order: 12, 8, 13."
+-- "Order: 12, 8", and then what comes next
+unfoldable pub beforeRoom : Layout → List ℕ → ℤ → List ℤ → (next : ℕ) → ℕ
+beforeRoom L s n contents next = demand (wellFormed L s) 12 (demand (mayDefine L n contents) 8 next)
+
+-- "13 is given exactly if the new entries together exceed the store"
 unfoldable pub defineRefusal : Layout → List ℕ → ℤ → List ℤ → ℕ
-defineRefusal L s n contents =
-    demand (wellFormed L s) 12 (demand (mayDefine L n contents) 8 (demand (leb (sizeOf L (entriesAfter L s n contents)) (length s)) 13 0))
+defineRefusal L s n contents = beforeRoom L s n contents (demand (leb (sizeOf L (entriesAfter L s n contents)) (length s)) 13 0)
 
 -- refused, the store is as it was
 unfoldable pub storeAfter : Layout → List ℕ → ℤ → List ℤ → List ℕ

@@ -8,8 +8,9 @@ ghost use lib.ListN.{length, getD, take, drop, replicate};
 ghost use lib.Seq.{sets};
 ghost use lib.IntN.{natAbs};
 ghost use Rattle.refusals.specs.Answers.{every};
-ghost use Rattle.macros.specs.Store.{threeBytes, atMost, sizeOf, entries, wellFormed, below, one, encoded, bodyOf, mayDefine, defineRefusal, storeAfter, definingOf, bodyInEither, lookRefusal, lookedUp, findRefusal, findingOf};
-ghost use Rattle.macros.specs.Fronts.{HeaderIs, FrontIs};
+ghost use Rattle.ranges.specs.Ranges.{within};
+ghost use Rattle.macros.specs.Store.{threeBytes, atMost, sizeOf, entries, wellFormed, below, one, encoded, bodyOf, mayDefine, beforeRoom, defineRefusal, storeAfter, definingOf, bodyInEither, lookRefusal, lookedUp, findRefusal, findingOf};
+ghost use Rattle.macros.specs.Fronts.{HeaderIs, FrontIs, GapIs, verdictOf, roomFor, fitsIn, putIn};
 use refusals::Refusal;
 
 // "The header is three bytes", and the longest body.
@@ -30,6 +31,12 @@ pub enum Finding {
     NotFound(Refusal),
 }
 
+// Whether a call may be done.
+enum Verdict {
+    Allowed,
+    Refused(Refusal),
+}
+
 struct Header {
     number: usize,
     // the length of the body
@@ -41,6 +48,16 @@ enum Front {
     // a number, and where its body begins and ends
     Here(usize, usize, usize),
     NoEntry,
+}
+
+// Where a macro stands in a store.
+struct Gap {
+    // where its entry begins, or would begin
+    at: usize,
+    // where its entry ends; `at`, where it has none
+    old: usize,
+    // where all entries end
+    end: usize,
 }
 
 // ---- reading a store
@@ -175,20 +192,20 @@ fn body_in(store: &[u8], number: usize) -> &[u8]
 
 // ---- looking up
 
-// "a malformed store, an outside number or an absent macro": whether look up may look.
-fn verdict(volatile: &[u8], saved: &[u8], number: i32) -> Finding
-    ensures { λ r. ⌜ findingOf r ≡ lookRefusal threeBytes (now (volatile .entry)) (now (saved .entry)) number 0 ⌝ }
+// 12 for a store, then 8 for the number.
+fn look_verdict(volatile: &[u8], saved: &[u8], number: i32) -> Verdict
+    ensures { λ r. ⌜ verdictOf r ≡ lookRefusal threeBytes (now (volatile .entry)) (now (saved .entry)) number 0 ⌝ }
 {
     if !is_well_formed(volatile) {
-        return Finding::NotFound(Refusal::StoreMalformed);
+        return Verdict::Refused(Refusal::StoreMalformed);
     }
     if !is_well_formed(saved) {
-        return Finding::NotFound(Refusal::StoreMalformed);
+        return Verdict::Refused(Refusal::StoreMalformed);
     }
     if ranges::is_within(0, 32767, number) {
-        return Finding::Found;
+        return Verdict::Allowed;
     }
-    Finding::NotFound(Refusal::NotValid)
+    Verdict::Refused(Refusal::NotValid)
 }
 
 // The body as part of the volatile store if it is there, otherwise as part of the saved store.
@@ -206,9 +223,9 @@ fn body_in_either<'a>(volatile: &'a [u8], saved: &'a [u8], number: usize) -> &'a
 pub fn look_up<'a>(volatile: &'a [u8], saved: &'a [u8], number: i32) -> &'a [u8]
     ensures { λ r. ⌜ now r ≡ lookedUp threeBytes (now (volatile .entry)) (now (saved .entry)) number ⌝ }
 {
-    match verdict(volatile, saved, number) {
-        Finding::NotFound(_) => &saved[..0],
-        Finding::Found => {
+    match look_verdict(volatile, saved, number) {
+        Verdict::Refused(_) => &saved[..0],
+        Verdict::Allowed => {
             let n = numbers::magnitude(number) as usize;
             body_in_either(volatile, saved, n)
         }
@@ -219,15 +236,196 @@ pub fn look_up<'a>(volatile: &'a [u8], saved: &'a [u8], number: i32) -> &'a [u8]
 pub fn found<'a>(volatile: &'a [u8], saved: &'a [u8], number: i32) -> Finding
     ensures { λ r. ⌜ findingOf r ≡ findRefusal threeBytes (now (volatile .entry)) (now (saved .entry)) number ⌝ }
 {
-    match verdict(volatile, saved, number) {
-        Finding::NotFound(refusal) => Finding::NotFound(refusal),
-        Finding::Found => {
+    match look_verdict(volatile, saved, number) {
+        Verdict::Refused(refusal) => Finding::NotFound(refusal),
+        Verdict::Allowed => {
             let n = numbers::magnitude(number) as usize;
             let body = body_in_either(volatile, saved, n);
             if body.len() > 0 {
                 return Finding::Found;
             }
             Finding::NotFound(Refusal::NoSuchMacro)
+        }
+    }
+}
+
+// ---- moving a stretch within a store
+
+// Towards the front: from the first byte on.
+fn move_down(store: &mut [u8], from: usize, to: usize, n: usize)
+    requires { ⌜ (to ≤ from) × (from + n ≤ length (now store)) ⌝ }
+    ensures { λ r. ⌜ now (store .exit) ≡ sets (now (store .entry)) to (take n (drop from (now (store .entry)))) ⌝ }
+{
+    let mut i = 0;
+    while i < n {
+        let next = store[from + i];
+        store[to + i] = next;
+        i += 1;
+    }
+}
+
+// Towards the end: from the last byte on.
+fn move_up(store: &mut [u8], from: usize, to: usize, n: usize)
+    requires { ⌜ (from ≤ to) × (to + n ≤ length (now store)) ⌝ }
+    ensures { λ r. ⌜ now (store .exit) ≡ sets (now (store .entry)) to (take n (drop from (now (store .entry)))) ⌝ }
+{
+    let mut left = n;
+    while left > 0 {
+        left -= 1;
+        let next = store[from + left];
+        store[to + left] = next;
+    }
+}
+
+fn move_within(store: &mut [u8], from: usize, to: usize, n: usize)
+    requires { ⌜ (from + n ≤ length (now store)) × (to + n ≤ length (now store)) ⌝ }
+    ensures { λ r. ⌜ now (store .exit) ≡ sets (now (store .entry)) to (take n (drop from (now (store .entry)))) ⌝ }
+{
+    if to <= from {
+        move_down(store, from, to, n);
+    } else {
+        move_up(store, from, to, n);
+    }
+}
+
+// ---- writing an entry
+
+fn write_header(store: &mut [u8], at: usize, number: usize, long: usize)
+    requires { ⌜ (at + 3 ≤ length (now store)) × (number ≤ 32767) × (long ≤ 256) ⌝ }
+    ensures { λ r. ⌜ now (store .exit) ≡ sets (now (store .entry)) at (threeBytes .pack number long) ⌝ }
+{
+    let packed = number * 512 + long;
+    let first = (packed / 65536) as u8;
+    let second = (packed / 256 % 256) as u8;
+    let third = (packed % 256) as u8;
+    store[at] = first;
+    store[at + 1] = second;
+    store[at + 2] = third;
+}
+
+fn write_body(store: &mut [u8], at: usize, contents: &[i32])
+    requires { ⌜ (at + length (now contents) ≤ length (now store)) × (every (within 0 127) (now contents) ≡ true) ⌝ }
+    ensures { λ r. ⌜ now (store .exit) ≡ sets (now (store .entry)) at (map natAbs (now (contents .entry))) ⌝ }
+{
+    let mut i = 0;
+    while i < contents.len() {
+        let to = at + i;
+        store[to] = characters::byte_of(contents[i]);
+        i += 1;
+    }
+}
+
+fn clear_from(store: &mut [u8], at: usize)
+    ensures { λ r. ⌜ now (store .exit) ≡ sets (now (store .entry)) at (replicate (length (now (store .entry)) - at) 0) ⌝ }
+{
+    let mut i = at;
+    while i < store.len() {
+        store[i] = 0;
+        i += 1;
+    }
+}
+
+// How many bytes the entry of a body takes; a macro with no body has none.
+fn entry_size(count: usize) -> usize
+    requires { ⌜ count ≤ 256 ⌝ }
+    ensures { λ r. ⌜ r ≡ roomFor threeBytes count ⌝ }
+{
+    if count == 0 {
+        return 0;
+    }
+    HEADER + count
+}
+
+fn write_entry(store: &mut [u8], at: usize, number: usize, contents: &[i32])
+    requires { ⌜ (at + roomFor threeBytes (length (now contents)) ≤ length (now store)) × (number ≤ 32767) ⌝ }
+    requires { ⌜ (length (now contents) ≤ 256) × (every (within 0 127) (now contents) ≡ true) ⌝ }
+    ensures { λ r. ⌜ now (store .exit) ≡ sets (now (store .entry)) at (encoded threeBytes (one number (map natAbs (now (contents .entry))))) ⌝ }
+{
+    let count = contents.len();
+    if count == 0 {
+        return;
+    }
+    write_header(store, at, number, count);
+    let from = at + HEADER;
+    write_body(store, from, contents);
+}
+
+// ---- defining
+
+fn gap_for(store: &[u8], number: usize) -> Gap
+    requires { ⌜ number ≤ 32767 ⌝ }
+    ensures { λ r. ⌜ GapIs threeBytes (now (store .entry)) number r ⌝ }
+{
+    let at = place_of(store, number);
+    let old = place_of(store, number + 1);
+    let end = end_of_entries(store);
+    Gap {
+        at: at,
+        old: old,
+        end: end,
+    }
+}
+
+// The new entries in the place of the old ones, if they fit: what stands behind the macro is moved, its entry is written,
+// and what is then left is cleared.
+fn rewrite(store: &mut [u8], number: usize, contents: &[i32]) -> bool
+    requires { ⌜ (number ≤ 32767) × (length (now contents) ≤ 256) × (every (within 0 127) (now contents) ≡ true) ⌝ }
+    ensures { λ r. ⌜ (r ≡ fitsIn threeBytes (now (store .entry)) number (map natAbs (now (contents .entry)))) × (now (store .exit) ≡ putIn threeBytes (now (store .entry)) number (map natAbs (now (contents .entry)))) ⌝ }
+{
+    let gap = gap_for(store, number);
+    let at = gap.at;
+    let old = gap.old;
+    let tail = gap.end - old;
+    let kept = at + tail;
+    let size = entry_size(contents.len());
+    if store.len() - kept < size {
+        return false;
+    }
+    let new = at + size;
+    move_within(store, old, new, tail);
+    write_entry(store, at, number, contents);
+    clear_from(store, new + tail);
+    true
+}
+
+// "Numbers 0..32767, contents 0..127, at most 256 of them."
+fn may_define(number: i32, contents: &[i32]) -> bool
+    ensures { λ r. ⌜ r ≡ mayDefine threeBytes number (now (contents .entry)) ⌝ }
+{
+    if contents.len() > LONGEST {
+        return false;
+    }
+    if ranges::is_within(0, 32767, number) {
+        return ranges::are_within(0, 127, contents);
+    }
+    false
+}
+
+// 12, then 8.
+fn define_verdict(store: &[u8], number: i32, contents: &[i32]) -> Verdict
+    ensures { λ r. ⌜ verdictOf r ≡ beforeRoom threeBytes (now (store .entry)) number (now (contents .entry)) 0 ⌝ }
+{
+    if !is_well_formed(store) {
+        return Verdict::Refused(Refusal::StoreMalformed);
+    }
+    if may_define(number, contents) {
+        return Verdict::Allowed;
+    }
+    Verdict::Refused(Refusal::NotValid)
+}
+
+// A macro is set, replaced or, by an empty array, deleted: 12, 8 and 13, in that order.
+pub fn define(store: &mut [u8], number: i32, contents: &[i32]) -> Defining
+    ensures { λ r. ⌜ (definingOf r ≡ defineRefusal threeBytes (now (store .entry)) number (now (contents .entry))) × (now (store .exit) ≡ storeAfter threeBytes (now (store .entry)) number (now (contents .entry))) ⌝ }
+{
+    match define_verdict(store, number, contents) {
+        Verdict::Refused(refusal) => Defining::NotDefined(refusal),
+        Verdict::Allowed => {
+            let n = numbers::magnitude(number) as usize;
+            if rewrite(store, n, contents) {
+                return Defining::Defined;
+            }
+            Defining::NotDefined(Refusal::StoreTooShort)
         }
     }
 }

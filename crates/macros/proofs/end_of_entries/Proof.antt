@@ -3,7 +3,8 @@ use native.Mathlib.Omega.{arith}
 use borrow.Author.Needs.{needs}
 use denote.Ref.{now}
 use Rattle.macros.specs.Store.{threeBytes, sizeOf, entries}
-use Rattle.macros.proofs.Layouts.{Bytes, three-lawful}
+use Rattle.macros.specs.Fronts.{Bytes}
+use Rattle.macros.proofs.Layouts.{three-lawful}
 use Rattle.macros.proofs.Listing.{entries-valid, all-below}
 use Rattle.macros.proofs.end_of_entries.Statement.{statement}
 use Rattle.macros.proofs.end_of_entries.Tie as tie

@@ -3,8 +3,8 @@ use borrow.Author.Needs.{needs}
 use Rattle.macros.proofs.found.Statement.{statement}
 use Rattle.macros.proofs.found.Tie as tie
 
-verdict-requires : tie.Need-verdict-requires
-verdict-requires c κs = search needs
+look-verdict-requires : tie.Need-look-verdict-requires
+look-verdict-requires c κs = search needs
 
 enum-known-refusal : tie.Need-enum-known-refusal
 enum-known-refusal c = search needs
@@ -34,7 +34,7 @@ pub found-spec : {M : Type 1} → statement M
 found-spec =
     tie.close
     (tie.spec
-    verdict-requires
+    look-verdict-requires
     enum-known-refusal
     enum-told
     magnitude-requires

@@ -3,8 +3,8 @@ use borrow.Author.Needs.{needs}
 use Rattle.macros.proofs.look_up.Statement.{statement}
 use Rattle.macros.proofs.look_up.Tie as tie
 
-verdict-requires : tie.Need-verdict-requires
-verdict-requires c κs = search needs
+look-verdict-requires : tie.Need-look-verdict-requires
+look-verdict-requires c κs = search needs
 
 enum-told : tie.Need-enum-told
 enum-told c = search needs
@@ -34,7 +34,7 @@ pub look-up-spec : {M : Type 1} → statement M
 look-up-spec =
     tie.close
     (tie.spec
-    verdict-requires
+    look-verdict-requires
     enum-told
     slice-aggregate-result
     enum-told-2

@@ -1,7 +1,7 @@
 use Rattle.macros.proofs.Lookups.{looks}
 use borrow.Author.Needs.{needs}
-use Rattle.macros.proofs.verdict.Statement.{statement}
-use Rattle.macros.proofs.verdict.Tie as tie
+use Rattle.macros.proofs.look_verdict.Statement.{statement}
+use Rattle.macros.proofs.look_verdict.Tie as tie
 
 is-well-formed-requires : tie.Need-is-well-formed-requires
 is-well-formed-requires c κs = search needs
@@ -24,8 +24,8 @@ returns-3 c = search (needs, looks)
 returns-4 : tie.Need-returns-4
 returns-4 c = search (needs, looks)
 
-pub verdict-spec : {M : Type 1} → statement M
-verdict-spec =
+pub look-verdict-spec : {M : Type 1} → statement M
+look-verdict-spec =
     tie.close
     (tie.spec
     is-well-formed-requires

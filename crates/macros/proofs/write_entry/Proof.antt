@@ -1,0 +1,27 @@
+use Rattle.macros.proofs.Placing.{writings}
+use borrow.Author.Needs.{needs}
+use Rattle.macros.proofs.write_entry.Statement.{statement}
+use Rattle.macros.proofs.write_entry.Tie as tie
+
+returns : tie.Need-returns
+returns c = search (needs, writings)
+
+write-header-requires : tie.Need-write-header-requires
+write-header-requires c κs = search (needs, writings)
+
+add-from : tie.Need-add-from
+add-from c = search needs
+
+write-body-requires : tie.Need-write-body-requires
+write-body-requires c κs = search (needs, writings)
+
+same-length : tie.Need-same-length
+same-length c = search needs
+
+returns-2 : tie.Need-returns-2
+returns-2 c = search (needs, writings)
+
+pub write-entry-spec : {M : Type 1} → statement M
+write-entry-spec =
+    tie.close
+    (tie.spec returns write-header-requires add-from write-body-requires same-length returns-2)
