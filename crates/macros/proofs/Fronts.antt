@@ -2,14 +2,13 @@
 use Prim.Native.Nat.{ℕ, zero, suc, _+_, _-_, _*_, _/_, _%_, _≤_, _<_}
 use mathlib.Core.Path.{_≡_, refl, sym, _∙_, ap}
 use mathlib.Core.Bool.{Bool, true, false, _&&_}
-use mathlib.Core.List.{List, [], _∷_, _++_}
+use mathlib.Core.List.{List, [], _∷_}
 use native.Mathlib.Nat.{add-zero}
 use native.Mathlib.Omega.{arith}
 use borrow.Author.Tests.{le-leb, lt-leb, le-ltb, lt-ltb, eq-eqb, ne-eqb}
 use borrow.Author.Needs.{fits-under}
 use mir.Syntax.{w64}
 use mir.Val.{Fits}
-use lib.Dec.{leb, ltb}
 use lib.ListN.{length, getD, take, drop, length-drop}
 use lib.Seq.{getD-drop, drop-drop, take-all}
 use Rattle.refusals.specs.Answers.{every}
@@ -17,7 +16,7 @@ use Rattle.refusals.proofs.Many.{Checking, checking-none, checking-end, checkin
 use Rattle.macros.specs.declared.Header.{Header}
 use Rattle.macros.specs.declared.Front.{Front}
 use Rattle.macros.specs.declared.Front.the-variants.{Here, NoEntry}
-use Rattle.macros.specs.Store.{Entry, Layout, threeIn, threeBytes, encoded, sizeOf, atMost, areBody, bodyIn, isEntry, entriesFrom, entries, keep, below, bodyOf, wellFormed}
+use Rattle.macros.specs.Store.{Entry, Layout, threeIn, threeBytes, sizeOf, atMost, areBody, bodyIn, isEntry, entriesFrom, entries, keep, below, bodyOf, wellFormed}
 use Rattle.macros.specs.Fronts.{HeaderIs, EntryIs, FrontIs}
 use Rattle.macros.proofs.Layouts.{Lawful, three-size, three-longest, three-lawful}
 use Rattle.macros.proofs.Reading.{Stands, stands, body-long, entryIn, restFrom, rest-all, rest-none, rest-one, size-cons, size-nil}

@@ -5,3 +5,5 @@ pub mod Listing
 pub mod Lookups
 pub mod Writing
 pub mod Placing
+pub mod Stores
+pub mod Coinciding

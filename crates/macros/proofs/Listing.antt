@@ -4,18 +4,17 @@ use mathlib.Core.Path.{_≡_, refl, sym, _∙_, ap, subst}
 use mathlib.Core.Bool.{Bool, true, false, _&&_}
 use mathlib.Core.List.{List, [], _∷_, _++_, append-nil, append-assoc}
 use native.Mathlib.Omega.{arith}
-use native.Mathlib.Numerals.{add-one}
-use borrow.Author.Tests.{le-leb, lt-leb, le-ltb, lt-ltb, eq-eqb, ne-eqb, ltb-true, ltb-false, leb-true}
+use borrow.Author.Tests.{le-leb, lt-leb, le-ltb, lt-ltb, eq-eqb, ne-eqb, ltb-true, ltb-false, leb-true, eqb-false}
 use lib.Arith.{lt-of-le-ne}
 use lib.Dec.{leb, ltb, eqb}
-use lib.ListN.{length, getD, take, drop, replicate, length-append, length-replicate, length-take, length-drop, take-append-drop}
+use lib.ListN.{length, drop, replicate, length-append, length-replicate, length-drop, take-append-drop}
 use lib.Seq.{getD-drop, drop-drop, take-append-seam, drop-append-seam, drop-at}
 use Rattle.refusals.specs.Answers.{every, pick}
 use Rattle.refusals.proofs.Cases.{and-left, and-right, bool-apart}
-use Rattle.macros.specs.Store.{Entry, Layout, encoded, sizeOf, stored, atMost, areBody, areZeros, bodyIn, isEntry, entriesFrom, entries, wellFormed, keep, below, above, one, put, bodyOf}
+use Rattle.macros.specs.Store.{Entry, Layout, encoded, sizeOf, stored, areBody, areZeros, bodyIn, isEntry, entriesFrom, entries, wellFormed, keep, below, above, one, put, bodyOf}
 use Rattle.macros.specs.Fronts.{Bytes}
 use Rattle.macros.proofs.Layouts.{Lawful}
-use Rattle.macros.proofs.Reading.{Stands, stands, body-long, entryIn, behind, first-entry, no-entry, size-cons, size-nil}
+use Rattle.macros.proofs.Reading.{stands, body-long, entryIn, behind, first-entry, no-entry, size-cons}
 
 -- ---- what a list of entries must be
 
@@ -220,11 +219,6 @@ module _ (L : Layout) (lawful : Lawful L) where
       sym (whole-store s h)
       ∙ ap (λ (l : List ℕ). encoded L (entries L s) ++ l) (only-zeros (drop (sizeOf L (entries L s)) s) e ∙ ap (λ (k : ℕ). replicate {A = ℕ} k 0) (length-drop (sizeOf L (entries L s)) s))
 
-  -- so the test decides which bytes are entries in rising number and then zeros, and of which entries: one list and no other
-  pub formed-one : (s : List ℕ) (es : List Entry) → Valid L 0 es → sizeOf L es ≤ length s → s ≡ stored L (length s) es → (wellFormed L s ≡ true) × (entries L s ≡ es)
-  formed-one s es v h e =
-      (ap (wellFormed L) e ∙ stored-formed (length s) es v h, ap (entries L) e ∙ entries-stored (length s) es v h)
-
 -- ---- entries by their numbers
 
 module _ (p : ℕ → Bool) where
@@ -287,6 +281,27 @@ module _ (L : Layout) (n : ℕ) where
   all-below h least [] v = refl
   all-below h least (e ∷ es) v =
       simp (lt-ltb (e .number) n (omega (arith, v .0 .small))) (ap (λ (l : List Entry). e ∷ l) (all-below h (e .number + 1) es (v .1)))
+
+  all-above : (least : ℕ) (es : List Entry) → n < least → Valid L least es → above n es ≡ es
+  unfolding Valid keep
+  all-above least [] h v = refl
+  all-above least (e ∷ es) h v =
+      simp (lt-ltb n (e .number) (omega (arith, h, v .0 .rising))) (ap (λ (l : List Entry). e ∷ l) (all-above (e .number + 1) es (omega (arith, h, v .0 .rising)) (v .1)))
+
+  -- deleting what is not there leaves the entries as they are
+  pub put-nothing : (least : ℕ) (es : List Entry) → Valid L least es → bodyOf n es ≡ [] → put n [] es ≡ es
+  unfolding Valid keep bodyOf
+  put-nothing least [] v a = refl
+  put-nothing least (e ∷ es) v a = go (ltb (e .number) n) (eqb (e .number) n) refl refl (put-nothing (e .number + 1) es (v .1))
+    where
+      go : (t u : Bool) → ltb (e .number) n ≡ t → eqb (e .number) n ≡ u → (bodyOf n es ≡ [] → put n [] es ≡ es) → put n [] (e ∷ es) ≡ e ∷ es
+      go t true q w again = let z : length (e .body) ≡ 0 = ap length (rw w at a) in absurd (omega (arith, z, v .0 .some))
+      go true false q w again =
+          let l : e .number < n = ltb-true (e .number) n q in
+          simp (q, le-ltb n (e .number) (omega (arith, l))) (ap (λ (l : List Entry). e ∷ l) (again (rw w at a)))
+      go false false q w again =
+          let l : n < e .number = lt-of-le-ne (ltb-false (e .number) n q) (λ z. eqb-false (e .number) n w (sym z)) in
+          simp (q, lt-ltb n (e .number) l, none-below (e .number + 1) es (omega (arith, l)) (v .1), all-above (e .number + 1) es (omega (arith, l)) (v .1))
 
 -- ---- one macro put in its place
 

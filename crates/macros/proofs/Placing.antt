@@ -1,12 +1,12 @@
 -- What defining a macro does to the bytes of a store, and its tests in their order, by what the parts gave.
-use Prim.Native.Nat.{ℕ, zero, suc, _+_, _-_, _≤_, _<_}
+use Prim.Native.Nat.{ℕ, _+_, _-_, _≤_, _<_}
 use mathlib.Core.Path.{_≡_, refl, sym, _∙_, ap}
 use mathlib.Core.Bool.{Bool, true, false, not, _&&_}
 use mathlib.Core.List.{List, [], _∷_, _++_, map, append-nil, append-assoc}
 use native.Mathlib.Omega.{arith}
 use native.Mathlib.Numerals.{add-one}
 use borrow.Author.Tests.{le-leb, lt-leb, lt-ltb, eq-eqb, ne-eqb, ltb-true, leb-true, not-true, not-false}
-use lib.Dec.{leb, ltb, eqb}
+use lib.Dec.{leb, ltb}
 use lib.ListN.{length, take, drop, replicate, length-append, length-replicate, length-take, length-drop, length-map, take-append-drop}
 use lib.Seq.{sets, sets-eq, length-sets, take-add, drop-drop, take-at, drop-at, drop-append-add}
 use lib.IntN.{ℤ, natAbs}
@@ -16,7 +16,7 @@ use mir.Facts.{toZ-ofZ}
 use Rattle.refusals.specs.declared.Refusal.{Refusal}
 use Rattle.refusals.specs.declared.Refusal.the-variants.{NotValid, StoreMalformed, StoreTooShort}
 use Rattle.refusals.specs.Refusals.{numberOf}
-use Rattle.refusals.specs.Answers.{pick, demand, every}
+use Rattle.refusals.specs.Answers.{demand, every}
 use Rattle.refusals.proofs.Cases.{and-left, and-right, bool-apart}
 use Rattle.refusals.proofs.Many.{sets-append}
 use Rattle.refusals.proofs.Numbers.{not-nought, met}
@@ -26,7 +26,7 @@ use Rattle.macros.specs.declared.Gap.{Gap}
 use Rattle.macros.specs.declared.Verdict.{Verdict}
 use Rattle.macros.specs.declared.Verdict.the-variants.{Allowed, Refused}
 use Rattle.macros.specs.declared.Defining.the-variants.{Defined, NotDefined}
-use Rattle.macros.specs.Store.{Entry, Layout, encoded, sizeOf, stored, entries, wellFormed, keep, below, above, one, put, isNumber, mayDefine, entriesAfter, beforeRoom, defineRefusal, storeAfter, definingOf}
+use Rattle.macros.specs.Store.{Entry, Layout, encoded, sizeOf, stored, entries, wellFormed, keep, below, above, one, put, isNumber, mayDefine, beforeRoom, defineRefusal, storeAfter, definingOf}
 use Rattle.macros.specs.Fronts.{Bytes, GapIs, verdictOf, roomFor, fitsIn, putIn}
 use Rattle.macros.proofs.Layouts.{Lawful, three-size, three-longest, three-lawful}
 use Rattle.macros.proofs.Reading.{size-cons, size-nil}

@@ -1,15 +1,14 @@
 -- Entries at the front of bytes: what an entry is made of, and what is left of a store behind one.
-use Prim.Native.Nat.{ℕ, zero, suc, _+_, _-_, _≤_, _<_}
+use Prim.Native.Nat.{ℕ, zero, suc, _+_, _-_, _≤_}
 use mathlib.Core.Path.{_≡_, refl, sym, _∙_, ap}
-use mathlib.Core.Bool.{Bool, true, false, _&&_}
+use mathlib.Core.Bool.{Bool, true, false}
 use mathlib.Core.List.{List, [], _∷_, _++_}
 use native.Mathlib.Omega.{arith}
 use native.Mathlib.Numerals.{sub-one}
 use borrow.Author.Tests.{leb-true}
 use lib.Dec.{leb}
-use lib.ListN.{length, take, drop, length-take, length-drop, length-append}
+use lib.ListN.{length, drop, length-take, length-drop, length-append}
 use lib.Seq.{drop-drop}
-use Rattle.refusals.specs.Answers.{every}
 use Rattle.refusals.proofs.Cases.{and-left, and-right}
 use Rattle.macros.specs.Store.{Entry, Layout, encoded, sizeOf, areBody, bodyIn, isEntry, entriesFrom, entries}
 use Rattle.macros.proofs.Layouts.{Lawful}

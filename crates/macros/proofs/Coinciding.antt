@@ -1,0 +1,34 @@
+-- Two conforming answers of a call on a store coincide. What is_well_formed and look_up give, and a store after a define, are fixed as they stand.
+use Prim.Native.Nat.{ℕ}
+use mathlib.Core.Path.{_≡_, refl, ap}
+use lib.Dec.{eqb}
+use Rattle.refusals.specs.Answers.{pick}
+use Rattle.refusals.proofs.Numbers.{not-nought}
+use Rattle.refusals.proofs.Coinciding.{named, named-back, coincide}
+use Rattle.macros.specs.declared.Defining.{Defining}
+use Rattle.macros.specs.declared.Defining.the-variants.{Defined, NotDefined}
+use Rattle.macros.specs.declared.Finding.{Finding}
+use Rattle.macros.specs.declared.Finding.the-variants.{Found, NotFound}
+use Rattle.macros.specs.Store.{definingOf, findingOf}
+
+defining-back : ℕ → Defining
+defining-back k = pick (eqb k 0) Defined (NotDefined (named k))
+
+defining-same : (r : Defining) → defining-back (definingOf r) ≡ r
+unfolding definingOf defining-back
+defining-same Defined = refl
+defining-same (NotDefined e) = rw (not-nought e) (ap NotDefined (named-back e))
+
+pub definings-coincide : {x y : Defining} {d : ℕ} → definingOf x ≡ d → definingOf y ≡ d → x ≡ y
+definings-coincide = coincide definingOf defining-back defining-same
+
+finding-back : ℕ → Finding
+finding-back k = pick (eqb k 0) Found (NotFound (named k))
+
+finding-same : (r : Finding) → finding-back (findingOf r) ≡ r
+unfolding findingOf finding-back
+finding-same Found = refl
+finding-same (NotFound e) = rw (not-nought e) (ap NotFound (named-back e))
+
+pub findings-coincide : {x y : Finding} {d : ℕ} → findingOf x ≡ d → findingOf y ≡ d → x ≡ y
+findings-coincide = coincide findingOf finding-back finding-same
