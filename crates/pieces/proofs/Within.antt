@@ -1,0 +1,72 @@
+-- A piece that is copied or called ends behind its start and no farther than the end of the body: a loop over pieces ends.
+use Prim.Native.Nat.{ℕ, _+_, _≤_, _<_}
+use mathlib.Core.Path.{_≡_, refl, sym, _∙_, ap, subst}
+use mathlib.Core.Bool.{Bool, true, false}
+use mathlib.Core.List.{List}
+use native.Mathlib.Omega.{arith}
+use borrow.Author.Tests.{lt-ltb, le-ltb, ltb-true, ltb-false}
+use lib.Dec.{ltb}
+use lib.ListN.{length}
+use lib.IntN.{ℤ}
+use Rattle.memory.specs.declared.Remembered.{Remembered}
+use Rattle.memory.specs.Memory.{inside}
+use Rattle.refusals.specs.Answers.{pick}
+use Rattle.refusals.proofs.Cases.{by-pick}
+use Rattle.parameters.specs.Shapes.{Value}
+use Rattle.commands.specs.Reading.{Meaning}
+use Rattle.stream.specs.Items.{Itemed, nothing, text, command, trouble, unread, itemAt, toldItem}
+use Rattle.laws.proofs.Partition.{Ends, item-ends}
+use Rattle.pieces.specs.declared.Piece.{Piece}
+use Rattle.pieces.specs.declared.Piece.the-variants.{End, Copied, Called, Broken}
+use Rattle.pieces.specs.Pieces.{isCall, commandPiece, pieceOf, pieceAt}
+
+-- where a piece that starts at start goes on
+unfoldable Onward : List ℕ → ℕ → Piece → Type 0
+Onward s start End = Unit {0}
+Onward s start (Copied n k) = (start < n) × (n ≤ length s)
+Onward s start (Called a n k) = (start < n) × (n ≤ length s)
+Onward s start Broken = Unit {0}
+
+command-onward : (s : List ℕ) (start first second : ℕ) (values : List Value) (n : ℕ) (k : Remembered) → (start < n) × (n ≤ length s) → Onward s start (commandPiece first second values n k)
+unfolding commandPiece Onward
+command-onward s start first second values n k h = by-pick (Onward s start) (isCall first second) _ _ (λ t. h) (λ t. h)
+
+item-onward : (kept : Remembered) (s : List ℕ) (start : ℕ) (i : Itemed Meaning) → Ends s start i → Onward s start (pieceOf kept (toldItem i))
+unfolding Onward Ends pieceOf toldItem
+item-onward kept s start nothing h = tt
+item-onward kept s start (text b n) h = h
+item-onward kept s start (command m) h = command-onward s start (m .first) (m .second) (m .values) (m .next) (m .kept) (h .0)
+item-onward kept s start (trouble e p n k) h = tt
+item-onward kept s start (unread e p) h = tt
+
+-- what is outside the bytes, or remembered outside, is no piece
+none-here : (kept : Remembered) (s : List ℕ) (start : ℕ) → length s ≤ start → Onward s start (pieceOf kept (toldItem (itemAt kept s start 256)))
+unfolding itemAt Onward pieceOf toldItem
+none-here kept s start h =
+    by-pick (λ i. Onward s start (pieceOf kept (toldItem i))) (ltb (length s) start) _ _
+    (λ t. tt)
+    (λ t. by-pick (λ i. Onward s start (pieceOf kept (toldItem i))) (inside (kept .point)) _ _
+    (λ u. rw (le-ltb start (length s) h) tt)
+    (λ u. tt))
+
+not-inside : (kept : Remembered) (s : List ℕ) (start : ℕ) → inside (kept .point) ≡ false → Onward s start (pieceOf kept (toldItem (itemAt kept s start 256)))
+unfolding itemAt Onward pieceOf toldItem
+not-inside kept s start u = by-pick (λ i. Onward s start (pieceOf kept (toldItem i))) (ltb (length s) start) _ _ (λ t. tt) (λ t. rw u tt)
+
+onward : (kept : Remembered) (s : List ℕ) (start : ℕ) → Onward s start (pieceAt kept s start)
+unfolding pieceAt
+onward kept s start =
+    by-pick (λ (b : Bool). Onward s start (pieceOf kept (toldItem (itemAt kept s start 256)))) (ltb start (length s)) true false
+    (λ t. by-pick (λ (b : Bool). Onward s start (pieceOf kept (toldItem (itemAt kept s start 256)))) (inside (kept .point)) true false
+    (λ j. item-onward kept s start (itemAt kept s start 256) (item-ends kept s start 256 j (ltb-true start (length s) t)))
+    (λ j. not-inside kept s start j))
+    (λ t. none-here kept s start (ltb-false start (length s) t))
+
+module _ (kept : Remembered) (s : List ℕ) (start : ℕ) where
+  pub copied-onward : {n : ℕ} {k : Remembered} → pieceAt kept s start ≡ Copied n k → (start < n) × (n ≤ length s)
+  unfolding Onward
+  copied-onward e = subst (Onward s start) e (onward kept s start)
+
+  pub called-onward : {a : ℤ} {n : ℕ} {k : Remembered} → pieceAt kept s start ≡ Called a n k → (start < n) × (n ≤ length s)
+  unfolding Onward
+  called-onward e = subst (Onward s start) e (onward kept s start)

@@ -1,0 +1,61 @@
+use Rattle.pieces.proofs.Reading.{readings}
+use borrow.Author.Needs.{needs}
+use Rattle.pieces.proofs.piece_at.Statement.{statement}
+use Rattle.pieces.proofs.piece_at.Tie as tie
+
+slice-aggregate-read-item : tie.Need-slice-aggregate-read-item
+slice-aggregate-read-item c = search needs
+
+read-item-requires : tie.Need-read-item-requires
+read-item-requires c κs = search needs
+
+enum-told : tie.Need-enum-told
+enum-told c = search needs
+
+enum-known-next : tie.Need-enum-known-next
+enum-known-next c = search needs
+
+enum-known-command : tie.Need-enum-known-command
+enum-known-command c = search needs
+
+command-piece-requires : tie.Need-command-piece-requires
+command-piece-requires c κs = search needs
+
+enum-told-2 : tie.Need-enum-told-2
+enum-told-2 c = search needs
+
+enum-told-3 : tie.Need-enum-told-3
+enum-told-3 c = search needs
+
+returns : tie.Need-returns
+returns c = search (needs, readings)
+
+returns-2 : tie.Need-returns-2
+returns-2 c = search (needs, readings)
+
+returns-3 : tie.Need-returns-3
+returns-3 c = search (needs, readings)
+
+returns-4 : tie.Need-returns-4
+returns-4 c = search (needs, readings)
+
+returns-5 : tie.Need-returns-5
+returns-5 c = search (needs, readings)
+
+pub piece-at-spec : {M : Type 1} → statement M
+piece-at-spec =
+    tie.close
+    (tie.spec
+    slice-aggregate-read-item
+    read-item-requires
+    enum-told
+    enum-known-next
+    enum-known-command
+    command-piece-requires
+    enum-told-2
+    enum-told-3
+    returns
+    returns-2
+    returns-3
+    returns-4
+    returns-5)

@@ -1,0 +1,76 @@
+// The pieces of a macro's body: what expanding needs to know of each item, and no more. The list that an array or a string is read
+// into is lent here, so that it does not stand in the frames of an expansion.
+ghost use mathlib.Core.Path.{_≡_};
+ghost use Rattle.parameters.specs.Shapes.{valuesOf};
+ghost use Rattle.pieces.specs.Pieces.{isCall, leading, commandPiece, pieceAt};
+use commands::Command;
+use memory::Remembered;
+use parameters::Parameters;
+use stream::Item;
+
+pub enum Piece {
+    // no item is left
+    End,
+    // text, or any command but KX: where the next item starts, and what is then remembered
+    Copied(usize, Remembered),
+    // KX: its number, where the next item starts, and what is then remembered
+    Called(i32, usize, Remembered),
+    // a refused or cut command
+    Broken,
+}
+
+// The letters of a macro's call.
+fn is_call(first: u8, second: u8) -> bool
+    ensures { λ r. ⌜ r ≡ isCall first second ⌝ }
+{
+    if first == b'K' {
+        return second == b'X';
+    }
+    false
+}
+
+// The first of the integers or characters of a command; the parameters of KX are one integer.
+fn leading_number(parameters: Parameters) -> i32
+    ensures { λ r. ⌜ r ≡ leading (valuesOf parameters) ⌝ }
+{
+    match parameters {
+        Parameters::Single(a) => a,
+        Parameters::Double(a, _) => a,
+        Parameters::Triple(a, _, _) => a,
+        Parameters::Letters(a, _) => a,
+        Parameters::NumberedText(a) => a,
+        Parameters::NumberedArray(a) => a,
+        Parameters::OnePoint(_) => 0,
+        Parameters::Corners(_, _) => 0,
+        Parameters::Scale(_) => 0,
+        Parameters::Text => 0,
+        Parameters::Array => 0,
+    }
+}
+
+fn command_piece(command: Command, next: usize, after: Remembered) -> Piece
+    ensures { λ r. ⌜ r ≡ commandPiece (command .first) (command .second) (valuesOf (command .parameters)) next after ⌝ }
+{
+    let first = command.first;
+    let second = command.second;
+    let parameters = command.parameters;
+    if is_call(first, second) {
+        let number = leading_number(parameters);
+        return Piece::Called(number, next, after);
+    }
+    Piece::Copied(next, after)
+}
+
+// The piece of a body that starts at `start`.
+pub fn piece_at(kept: Remembered, body: &[u8], start: usize) -> Piece
+    ensures { λ r. ⌜ r ≡ pieceAt kept (now (body .entry)) start ⌝ }
+{
+    let mut list = [0; 256];
+    match stream::read_item(kept, body, start, &mut list) {
+        Item::Nothing => Piece::End,
+        Item::Text(_, next) => Piece::Copied(next, kept),
+        Item::Done(command, _, next, after) => command_piece(command, next, after),
+        Item::Refused(_, _, _, _) => Piece::Broken,
+        Item::NotRead(_, _) => Piece::Broken,
+    }
+}
