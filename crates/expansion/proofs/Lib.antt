@@ -1,0 +1,3 @@
+pub mod Stretches
+pub mod Walking
+pub mod Entering

@@ -1,0 +1,146 @@
+// Expanding a macro. Reading a body and entering a named macro call one another; a loop over the body's pieces keeps the stack small.
+// First a run that only looks finds the first trouble, the length and the macros entered; then, where all of it fits, one that writes.
+ghost use mathlib.Core.Path.{_≡_};
+ghost use lib.ListN.{length};
+ghost use lib.Seq.{sets};
+ghost use Rattle.expansion.specs.Expansion.{stepOf, reached, bodyStretch, callStretch, expansionOf, expandTold, expandOut, roomTold, roomOut, started};
+ghost use Rattle.expansion.specs.Running.{Roomy, Ran};
+use macros::Finding;
+use memory::Remembered;
+use pieces::Piece;
+use refusals::Refusal;
+
+// "macro call inside a body at depth 8"
+const DEEPEST: usize = 8;
+
+// "a 1,025th macro would be entered"
+const MOST_ENTERED: usize = 1024;
+
+pub enum Expansion {
+    // bytes written, and macros entered
+    Expanded(usize, usize),
+    NotExpanded(Refusal),
+}
+
+// How far an expansion has come: the place of the next byte, the macros entered, and what reading remembers.
+struct Going {
+    at: usize,
+    entered: usize,
+    kept: Remembered,
+}
+
+enum Step {
+    On(Going),
+    Stopped(Refusal),
+}
+
+// The bytes of a part into `out` from `at` on, as far as it has room.
+fn copy(part: &[u8], out: &mut [u8], at: usize)
+    ensures { λ _. ⌜ now (out .exit) ≡ sets (now (out .entry)) at (now (part .entry)) ⌝ }
+{
+    let room = out.len();
+    if at >= room {
+        return;
+    }
+    let mut i = 0;
+    while i < part.len() {
+        if room - at <= i {
+            return;
+        }
+        let to = at + i;
+        out[to] = part[i];
+        i = i + 1;
+    }
+}
+
+// The body of a macro, piece by piece; in it `depth` more macros may be entered one inside the other.
+fn walk<'a>(
+    volatile: &'a [u8],
+    saved: &'a [u8],
+    body: &'a [u8],
+    depth: usize,
+    from: Going,
+    out: &mut [u8],
+) -> Step
+    requires { ⌜ Roomy from (length (now body)) ⌝ }
+    ensures { λ r. ⌜ Ran (bodyStretch (now (volatile .entry)) (now (saved .entry)) depth (now (body .entry)) (from .kept) (from .entered)) (from .at) (now (out .entry)) (now (out .exit)) r ⌝ }
+{
+    let mut going = from;
+    let mut i = 0;
+    loop {
+        let at = going.at;
+        let entered = going.entered;
+        let kept = going.kept;
+        match pieces::piece_at(kept, body, i) {
+            Piece::End => {
+                return Step::On(going);
+            }
+            Piece::Broken => {
+                return Step::Stopped(Refusal::BodyRefused);
+            }
+            Piece::Copied(next, after) => {
+                copy(&body[i..next], out, at);
+                let behind = at + (next - i);
+                going = Going {
+                    at: behind,
+                    entered: entered,
+                    kept: after,
+                };
+                i = next;
+            }
+            Piece::Called(number, next, after) => {
+                let call = Going {
+                    at: at,
+                    entered: entered,
+                    kept: after,
+                };
+                match enter(volatile, saved, number, depth, call, out) {
+                    Step::On(behind) => {
+                        going = behind;
+                        i = next;
+                    }
+                    Step::Stopped(e) => {
+                        return Step::Stopped(e);
+                    }
+                }
+            }
+        }
+    }
+}
+
+// A call of a macro: a negative number is 8, then 15, then it is looked up, then 16.
+fn enter<'a>(
+    volatile: &'a [u8],
+    saved: &'a [u8],
+    number: i32,
+    depth: usize,
+    from: Going,
+    out: &mut [u8],
+) -> Step
+    requires { ⌜ Roomy from 0 ⌝ }
+    ensures { λ r. ⌜ Ran (callStretch (now (volatile .entry)) (now (saved .entry)) depth number (from .kept) (from .entered)) (from .at) (now (out .entry)) (now (out .exit)) r ⌝ }
+{
+    let at = from.at;
+    let entered = from.entered;
+    let kept = from.kept;
+    if numbers::is_negative(number) {
+        return Step::Stopped(Refusal::NotValid);
+    }
+    if depth == 0 {
+        return Step::Stopped(Refusal::TooDeep);
+    }
+    let body = macros::look_up(volatile, saved, number);
+    if body.len() == 0 {
+        return Step::On(from);
+    }
+    if entered >= MOST_ENTERED {
+        return Step::Stopped(Refusal::TooManyMacros);
+    }
+    let more = entered + 1;
+    let inner = Going {
+        at: at,
+        entered: more,
+        kept: kept,
+    };
+    walk(volatile, saved, body, depth - 1, inner, out)
+}
