@@ -1,3 +1,4 @@
 pub mod Stretches
 pub mod Walking
 pub mod Entering
+pub mod Answering

@@ -41,11 +41,11 @@ stopped-of true h x e q = let z : _≡_ {A = ℕ} 0 1 = cc in absurd (omega arit
 stopped-of false h x e q = (refl, cc)
 
 module _ (at : ℕ) (c : Stretch) {r : Step} (t : stepOf r ≡ reached at c) where
-  went-on : {g : Going} → r ≡ On g → (eqb (c .number) 0 ≡ true) × (g ≡ record { at = at + length (c .bytes); entered = c .entered; kept = c .kept })
+  pub went-on : {g : Going} → r ≡ On g → (eqb (c .number) 0 ≡ true) × (g ≡ record { at = at + length (c .bytes); entered = c .entered; kept = c .kept })
   unfolding stepOf reached
   went-on {g = g} e = on-of (eqb (c .number) 0) g _ (c .number) (sym (rw e) ∙ t)
 
-  was-stopped : {x : Refusal} → r ≡ Stopped x → (eqb (c .number) 0 ≡ false) × (numberOf x ≡ c .number)
+  pub was-stopped : {x : Refusal} → r ≡ Stopped x → (eqb (c .number) 0 ≡ false) × (numberOf x ≡ c .number)
   unfolding stepOf reached
   was-stopped {x = x} e = stopped-of (eqb (c .number) 0) _ (numberOf x) (c .number) (sym (rw e) ∙ t)
 

@@ -144,3 +144,54 @@ fn enter<'a>(
     };
     walk(volatile, saved, body, depth - 1, inner, out)
 }
+
+// The starting macro: it has depth 1 and is the first entered.
+fn run<'a>(volatile: &'a [u8], saved: &'a [u8], number: i32, out: &mut [u8]) -> Step
+    ensures { λ r. ⌜ Ran (started (now (volatile .entry)) (now (saved .entry)) number) 0 (now (out .entry)) (now (out .exit)) r ⌝ }
+{
+    let kept = memory::fresh();
+    let start = Going {
+        at: 0,
+        entered: 0,
+        kept: kept,
+    };
+    enter(volatile, saved, number, DEEPEST, start, out)
+}
+
+// A run that has no room to write in.
+fn look<'a>(volatile: &'a [u8], saved: &'a [u8], number: i32) -> Step
+    ensures { λ r. ⌜ stepOf r ≡ reached 0 (started (now (volatile .entry)) (now (saved .entry)) number) ⌝ }
+{
+    let mut none = [0; 1];
+    run(volatile, saved, number, &mut none[..0])
+}
+
+// A macro that is there: the first trouble on the way, then 7.
+fn expand_found<'a>(volatile: &'a [u8], saved: &'a [u8], number: i32, out: &mut [u8]) -> Expansion
+    ensures { λ r. ⌜ expansionOf r ≡ roomTold (started (now (volatile .entry)) (now (saved .entry)) number) (length (now (out .entry))) ⌝ }
+    ensures { λ r. ⌜ now (out .exit) ≡ roomOut (started (now (volatile .entry)) (now (saved .entry)) number) (now (out .entry)) ⌝ }
+{
+    match look(volatile, saved, number) {
+        Step::Stopped(e) => Expansion::NotExpanded(e),
+        Step::On(end) => {
+            let written = end.at;
+            let entered = end.entered;
+            if written > out.len() {
+                return Expansion::NotExpanded(Refusal::TooShort);
+            }
+            run(volatile, saved, number, out);
+            Expansion::Expanded(written, entered)
+        }
+    }
+}
+
+// The expansion of a macro. The start first gives 12, 8, 14; nothing is written unless all of it fits.
+pub fn expand<'a>(volatile: &'a [u8], saved: &'a [u8], number: i32, out: &mut [u8]) -> Expansion
+    ensures { λ r. ⌜ expansionOf r ≡ expandTold (now (volatile .entry)) (now (saved .entry)) number (length (now (out .entry))) ⌝ }
+    ensures { λ r. ⌜ now (out .exit) ≡ expandOut (now (volatile .entry)) (now (saved .entry)) number (now (out .entry)) ⌝ }
+{
+    match macros::found(volatile, saved, number) {
+        Finding::NotFound(e) => Expansion::NotExpanded(e),
+        Finding::Found => expand_found(volatile, saved, number, out),
+    }
+}

@@ -1,0 +1,37 @@
+use Rattle.expansion.proofs.Answering.{unfound-told, unfound-out, found-told, found-out}
+use borrow.Author.Needs.{needs}
+use Rattle.expansion.proofs.expand.Statement.{statement}
+use Rattle.expansion.proofs.expand.Tie as tie
+
+found-requires : tie.Need-found-requires
+found-requires c κs = search needs
+
+enum-known-e : tie.Need-enum-known-e
+enum-known-e c = search needs
+
+enum-told : tie.Need-enum-told
+enum-told c = search needs
+
+expand-found-requires : tie.Need-expand-found-requires
+expand-found-requires c κs = search needs
+
+returns : tie.Need-returns
+returns c = search (needs, unfound-told, unfound-out)
+
+same-length : tie.Need-same-length
+same-length c = search needs
+
+returns-2 : tie.Need-returns-2
+returns-2 c = search (needs, found-told, found-out)
+
+pub expand-spec : {M : Type 1} → statement M
+expand-spec =
+    tie.close
+    (tie.spec
+    found-requires
+    enum-known-e
+    enum-told
+    expand-found-requires
+    returns
+    same-length
+    returns-2)
