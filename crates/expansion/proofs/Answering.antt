@@ -25,13 +25,10 @@ use Rattle.expansion.specs.declared.Step.{Step}
 use Rattle.expansion.specs.declared.Step.the-variants.{On, Stopped}
 use Rattle.expansion.specs.declared.Expansion.the-variants.{Expanded, NotExpanded}
 use Rattle.expansion.specs.Expansion.{Stretch, callStretch, started, Told, stepOf, reached, expansionOf, toldOf, outOf, roomRefusal, roomTold, roomOut, expandRefusal, expandTold, expandOut}
-use Rattle.expansion.specs.Running.{Roomy, Ran}
+use Rattle.expansion.specs.Running.{Ran}
 use Rattle.expansion.proofs.Walking.{went-on, was-stopped}
 
 -- ---- the run
-
-pub roomy-start : (kept : Remembered) → Roomy (record { at = 0; entered = 0; kept = kept }) 0
-roomy-start kept = record { few = omega arith; fits = omega arith }
 
 pub ran-start : (volatile saved : List ℕ) (number : ℤ) {kept : Remembered} {out out′ : List ℕ} {r : Step} → SFits w32 number → kept ≡ freshMemory → Ran (callStretch volatile saved 8 (toZ w32 (ofZ w32 number)) kept 0) 0 out out′ r → Ran (started volatile saved number) 0 out out′ r
 unfolding started

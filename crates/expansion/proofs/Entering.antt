@@ -16,7 +16,7 @@ use Rattle.refusals.specs.declared.Refusal.the-variants.{NotValid, TooDeep, Too
 use Rattle.refusals.specs.Answers.{pick}
 use Rattle.numbers.specs.Integers.{isNegative}
 use Rattle.macros.specs.Store.{threeBytes, lookedUp}
-use Rattle.macros.proofs.Lengths.{looked-up-short}
+use Rattle.expansion.proofs.Bodies.{looked-up-short}
 use Rattle.expansion.specs.declared.Going.{Going}
 use Rattle.expansion.specs.declared.Step.{Step}
 use Rattle.expansion.specs.declared.Step.the-variants.{On, Stopped}

@@ -1,4 +1,6 @@
+pub mod Bodies
 pub mod Stretches
 pub mod Walking
 pub mod Entering
 pub mod Answering
+pub mod Coinciding

@@ -16,7 +16,7 @@ use Rattle.refusals.specs.Answers.{pick}
 use Rattle.refusals.proofs.Cases.{by-pick}
 use Rattle.numbers.specs.Integers.{isNegative}
 use Rattle.macros.specs.Store.{threeBytes, lookedUp}
-use Rattle.macros.proofs.Lengths.{looked-up-short}
+use Rattle.expansion.proofs.Bodies.{looked-up-short}
 use Rattle.pieces.specs.declared.Piece.{Piece}
 use Rattle.pieces.specs.declared.Piece.the-variants.{End, Copied, Called, Broken}
 use Rattle.pieces.specs.Pieces.{pieceAt}
