@@ -11,7 +11,6 @@ use Rattle.macros.specs.Store.{Entry, Layout, threeBytes, bodyIn, isEntry, entr
 use Rattle.macros.proofs.Reading.{stands, body-long}
 
 module _ (L : Layout) where
-
   pub short-of : (n k least : ℕ) (s : List ℕ) → length (bodyOf n (entriesFrom L k least s)) ≤ L .longest
   unfolding entriesFrom bodyOf
   short-of n zero least s = omega arith

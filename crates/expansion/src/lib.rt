@@ -69,39 +69,25 @@ fn walk<'a>(
     let mut i = 0;
     loop {
         let at = going.at;
-        let entered = going.entered;
-        let kept = going.kept;
-        match pieces::piece_at(kept, body, i) {
-            Piece::End => {
-                return Step::On(going);
-            }
-            Piece::Broken => {
-                return Step::Stopped(Refusal::BodyRefused);
-            }
+        match pieces::piece_at(going.kept, body, i) {
+            Piece::End => return Step::On(going),
+            Piece::Broken => return Step::Stopped(Refusal::BodyRefused),
             Piece::Copied(next, after) => {
                 copy(&body[i..next], out, at);
                 let behind = at + (next - i);
-                going = Going {
-                    at: behind,
-                    entered: entered,
-                    kept: after,
-                };
+                going.at = behind;
+                going.kept = after;
                 i = next;
             }
             Piece::Called(number, next, after) => {
-                let call = Going {
-                    at: at,
-                    entered: entered,
-                    kept: after,
-                };
+                let mut call = going;
+                call.kept = after;
                 match enter(volatile, saved, number, depth, call, out) {
                     Step::On(behind) => {
                         going = behind;
                         i = next;
                     }
-                    Step::Stopped(e) => {
-                        return Step::Stopped(e);
-                    }
+                    Step::Stopped(e) => return Step::Stopped(e),
                 }
             }
         }
