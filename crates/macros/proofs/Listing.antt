@@ -11,25 +11,12 @@ use lib.ListN.{length, drop, replicate, length-append, length-replicate, length-
 use lib.Seq.{getD-drop, drop-drop, take-append-seam, drop-append-seam, drop-at}
 use Rattle.refusals.specs.Answers.{every, pick}
 use Rattle.refusals.proofs.Cases.{and-left, and-right, bool-apart}
-use Rattle.macros.specs.Store.{Entry, Layout, encoded, sizeOf, stored, areBody, areZeros, bodyIn, isEntry, entriesFrom, entries, wellFormed, keep, below, above, one, put, bodyOf}
+use Rattle.macros.specs.Store.{Entry, Layout, encoded, sizeOf, stored, areBody, areZeros, bodyIn, isEntry, entriesFrom, entries, wellFormed, Fits, Valid, keep, below, above, one, put, bodyOf}
 use Rattle.macros.specs.Fronts.{Bytes}
 use Rattle.macros.proofs.Layouts.{Lawful}
 use Rattle.macros.proofs.Reading.{stands, body-long, entryIn, behind, first-entry, no-entry, size-cons}
 
--- ---- what a list of entries must be
-
--- an entry that may stand in a store, with a number from least on
-pub record Fits (L : Layout) (least : ℕ) (e : Entry) : Type 0 where
-  pub rising : least ≤ e .number
-  pub small : e .number ≤ 32767
-  pub some : 1 ≤ length (e .body)
-  pub most : length (e .body) ≤ L .longest
-  pub bytes : areBody (e .body) ≡ true
-
--- "entries in rising macro number, each number once"
-unfoldable pub Valid : Layout → (least : ℕ) → List Entry → Type 0
-Valid L least [] = Unit {0}
-Valid L least (e ∷ es) = Fits L least e × Valid L (e .number + 1) es
+-- ---- lists of entries
 
 pub bytes-drop : (k : ℕ) (s : List ℕ) → Bytes s → Bytes (drop k s)
 unfolding Bytes

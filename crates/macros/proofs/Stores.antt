@@ -13,10 +13,10 @@ use Rattle.refusals.proofs.Cases.{and-left, and-right}
 use Rattle.refusals.proofs.Numbers.{met}
 use Rattle.ranges.specs.Ranges.{within}
 use Rattle.ranges.proofs.Entries.{within-range}
-use Rattle.macros.specs.Store.{Entry, Layout, sizeOf, stored, areBody, entries, wellFormed, bodyOf, isNumber, mayDefine, entriesAfter, beforeRoom, defineRefusal, storeAfter, orElse, bodyInEither, lookRefusal, findRefusal, lookedUp}
+use Rattle.macros.specs.Store.{Entry, Layout, sizeOf, stored, areBody, entries, wellFormed, Valid, bodyOf, isNumber, mayDefine, entriesAfter, beforeRoom, defineRefusal, storeAfter, orElse, bodyInEither, lookRefusal, findRefusal, lookedUp}
 use Rattle.macros.specs.Fronts.{Bytes}
 use Rattle.macros.proofs.Layouts.{Lawful}
-use Rattle.macros.proofs.Listing.{Valid, entries-valid, size-inside, stored-long, entries-stored, stored-formed, formed-stored, put-valid, put-nothing, put-found, put-others}
+use Rattle.macros.proofs.Listing.{entries-valid, size-inside, stored-long, entries-stored, stored-formed, formed-stored, put-valid, put-nothing, put-found, put-others}
 
 -- ---- "A store is entries in rising macro number, each number once. [..] The rest of the store is all zeros."
 

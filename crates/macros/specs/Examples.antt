@@ -19,10 +19,10 @@ define s n body number after = record {
   paper = number ∷ after;
 }
 
--- the refusal of a look up in a volatile store beside an empty saved one, and the body
-abbrev lookUp : List ℕ → ℕ → (number : ℕ) → List ℕ → Row
-lookUp s n number body = record {
-  given = findRefusal threeBytes s [] (pos n) ∷ lookedUp threeBytes s [] (pos n);
+-- the companion answer of a look up, and the body
+abbrev lookUp : (volatile saved : List ℕ) → ℕ → (number : ℕ) → List ℕ → Row
+lookUp v s n number body = record {
+  given = findRefusal threeBytes v s (pos n) ∷ lookedUp threeBytes v s (pos n);
   paper = number ∷ body;
 }
 
@@ -39,10 +39,11 @@ examples =
     ∷ define five 4 [] 0 five
     ∷ define five 32768 [] 8 five
     ∷ define (1 ∷ []) 32768 [] 12 (1 ∷ [])
-    ∷ lookUp five 5 0 (72 ∷ 105 ∷ [])
-    ∷ lookUp five 6 14 []
-    ∷ lookUp five 32768 8 []
-    ∷ lookUp (1 ∷ []) 32768 12 []
+    ∷ lookUp five (0 ∷ 10 ∷ 1 ∷ 33 ∷ []) 5 0 (72 ∷ 105 ∷ [])
+    ∷ lookUp [] five 5 0 (72 ∷ 105 ∷ [])
+    ∷ lookUp five [] 6 14 []
+    ∷ lookUp five [] 32768 8 []
+    ∷ lookUp five (1 ∷ []) 32768 12 []
     ∷ []
 
 abbrev given-of : Row → List ℕ

@@ -1,5 +1,6 @@
 -- "Macros": a store as a list of entries and as bytes, and what defining and looking up make of it.
-use Prim.Native.Nat.{ℕ, zero, suc, _+_, _-_, _*_, _/_, _%_}
+use Prim.Native.Nat.{ℕ, zero, suc, _+_, _-_, _*_, _/_, _%_, _≤_}
+use mathlib.Core.Path.{_≡_}
 use mathlib.Core.Bool.{Bool, true, _&&_}
 use mathlib.Core.List.{List, [], _∷_, _++_, map}
 use lib.ListN.{length, getD, take, drop, replicate}
@@ -102,6 +103,19 @@ unfoldable pub wellFormed : Layout → List ℕ → Bool
 wellFormed L s = areZeros (drop (sizeOf L (entries L s)) s)
 
 -- ---- a list of entries
+
+-- one that may stand in a store, with a number from least on: "15 bits of number", "body length 1..256", "bytes 0..127"
+pub record Fits (L : Layout) (least : ℕ) (e : Entry) : Type 0 where
+  pub rising : least ≤ e .number
+  pub small : e .number ≤ 32767
+  pub some : 1 ≤ length (e .body)
+  pub most : length (e .body) ≤ L .longest
+  pub bytes : areBody (e .body) ≡ true
+
+-- "entries in rising macro number, each number once"
+unfoldable pub Valid : Layout → (least : ℕ) → List Entry → Type 0
+Valid L least [] = Unit {0}
+Valid L least (e ∷ es) = Fits L least e × Valid L (e .number + 1) es
 
 unfoldable pub keep : (ℕ → Bool) → List Entry → List Entry
 keep p [] = []

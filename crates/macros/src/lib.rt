@@ -3,7 +3,7 @@
 ghost use mathlib.Core.Path.{_≡_};
 ghost use mathlib.Core.Bool.{true};
 ghost use mathlib.Core.List.{map};
-ghost use Prim.Native.Nat.{_+_, _-_, _*_, _<_, _≤_};
+ghost use Prim.Native.Nat.{_+_, _-_, _<_, _≤_};
 ghost use lib.ListN.{length, getD, take, drop, replicate};
 ghost use lib.Seq.{sets};
 ghost use lib.IntN.{natAbs};
@@ -13,9 +13,10 @@ ghost use Rattle.macros.specs.Store.{threeBytes, atMost, sizeOf, entries
 ghost use Rattle.macros.specs.Fronts.{HeaderIs, FrontIs, GapIs, verdictOf, roomFor, fitsIn, putIn};
 use refusals::Refusal;
 
-// "The header is three bytes", and the longest body.
+// "The header is three bytes."
 const HEADER: usize = 3;
 
+// The longest body.
 const LONGEST: usize = 256;
 
 // One more than the greatest macro number.
