@@ -1,2 +1,3 @@
 pub mod Expansion
 pub mod Running
+pub mod Examples
