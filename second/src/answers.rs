@@ -1,6 +1,6 @@
 //! What readings and writings answer.
 
-/// The refusals of document 01 that reading, writing and the pixel commands can give, under the paper's own numbers.
+/// The refusals of document 01, under the paper's own numbers.
 #[derive(Clone, Copy, Debug, PartialEq, Eq)]
 pub enum Refusal {
     BytesEnd = 1,
@@ -16,6 +16,12 @@ pub enum Refusal {
     BitsNotSet = 9,
     RasterWrong = 10,
     SurfaceSize = 11,
+    StoreMalformed = 12,
+    StoreTooShort = 13,
+    NoSuchMacro = 14,
+    CallTooDeep = 15,
+    TooManyEntered = 16,
+    BodyWrong = 17,
 }
 
 impl Refusal {

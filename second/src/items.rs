@@ -21,6 +21,15 @@ pub enum Item {
     },
 }
 
+impl Item {
+    pub fn start(&self) -> usize {
+        match self {
+            Item::Text { place, .. } => *place,
+            Item::Command { start, .. } | Item::Refused { start, .. } => *start,
+        }
+    }
+}
+
 /// All items of the bytes, taken as the whole, from a fresh remembered point on.
 pub fn items_of(bytes: &[u8]) -> Vec<Item> {
     let mut items = Vec::new();

@@ -2,15 +2,20 @@
 
 mod answers;
 mod blocks;
+mod bodies;
 mod calls;
 mod cases;
 mod commands;
 mod digest;
 mod draws;
+mod expansion;
+mod expansion_cases;
 mod forms;
 mod integers;
 mod items;
+mod lent_stores;
 mod lister;
+mod macros;
 mod made;
 mod parameters;
 mod pictures;
@@ -20,6 +25,8 @@ mod ranges;
 mod record;
 mod reports;
 mod spellings;
+mod store;
+mod store_cases;
 mod streams;
 mod table;
 mod trouble;
@@ -36,7 +43,8 @@ commands:
   second vectors < table    run all blocks of docs/VECTORS.md and print their lines
   second list < bytes       print a line for each item of up to 4,096 bytes
   second streams            make and list all streams of docs/STREAMS.md and print a line for each block
-  second pictures           draw the picture and run the small cases of docs/PICTURES.md and print their lines";
+  second pictures           draw the picture and run the small cases of docs/PICTURES.md and print their lines
+  second macros             run the stores and the expansions of docs/MACROS.md and print their lines";
 
 const FAILED: u8 = 1;
 const NOT_A_COMMAND: u8 = 2;
@@ -52,6 +60,7 @@ fn main() -> ExitCode {
         ["list"] => status_of(lister::run()),
         ["streams"] => status_of(streams::run()),
         ["pictures"] => status_of(pictures::run()),
+        ["macros"] => status_of(macros::run()),
         _ => {
             eprintln!("{COMMANDS}");
             ExitCode::from(NOT_A_COMMAND)

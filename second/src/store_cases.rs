@@ -1,0 +1,233 @@
+//! The cases of stores of docs/MACROS.md: twelve calls on two stores, then twelve look-ups.
+
+use std::fmt;
+
+use crate::answers::Refusal;
+use crate::digest::Digest;
+use crate::draws::Draws;
+use crate::lent_stores::{LentStores, OUTSIDE};
+use crate::store::{define, find, is_well_formed};
+
+const CASES: u64 = 1000;
+const CALLS: usize = 12;
+const CALLS_BEFORE_DAMAGE: usize = 6;
+const NUMBERS: [i32; 8] = [0, 1, 2, 5, 127, 128, 300, 32767];
+const ODD_ENTRIES: [i32; 8] = [-1, 127, 128, 255, 256, 283, 32768, -32768];
+const DRAWN_BYTES: [u8; 16] = [0, 0, 0, 0, 0, 0, 0, 1, 2, 2, 3, 4, 10, 127, 128, 255];
+const REFUSALS: [u32; 4] = [8, 12, 13, 14];
+
+#[derive(Clone, Copy, PartialEq, Eq)]
+enum Change {
+    Nothing,
+    Damage,
+    DrawBytes,
+}
+
+/// Each block by its name, its L and what else is done.
+const BLOCKS: [(&str, usize, Change); 4] = [
+    ("made", 41, Change::Nothing),
+    ("large", 601, Change::Nothing),
+    ("damaged", 41, Change::Damage),
+    ("drawn", 13, Change::DrawBytes),
+];
+
+/// What the cases of a block come to.
+#[derive(Debug)]
+pub struct StoreBlock {
+    name: &'static str,
+    cases: u64,
+    calls: u64,
+    done: u64,
+    /// Those with 8, 12, 13 and 14.
+    refused: [u64; 4],
+    digest: Digest,
+}
+
+pub fn all_blocks() -> impl Iterator<Item = StoreBlock> {
+    (0..BLOCKS.len()).map(run_block)
+}
+
+/// "Starts its case c (0 to 999) with x = 1 + 1000 * k + c."
+fn run_block(number: usize) -> StoreBlock {
+    let (name, lengths, change) = BLOCKS[number];
+    let mut block = StoreBlock::new(name);
+    for c in 0..CASES {
+        let mut draws = Draws::starting_with(1 + 1000 * number as u64 + c);
+        block.run_case(&mut draws, lengths, change);
+    }
+    block
+}
+
+impl StoreBlock {
+    fn new(name: &'static str) -> StoreBlock {
+        StoreBlock {
+            name,
+            cases: 0,
+            calls: 0,
+            done: 0,
+            refused: [0; 4],
+            digest: Digest::new(),
+        }
+    }
+
+    fn run_case(&mut self, draws: &mut Draws, lengths: usize, change: Change) {
+        self.cases += 1;
+        let mut stores = draw_stores(draws, lengths, change);
+        for call in 0..CALLS {
+            if change == Change::Damage && call == CALLS_BEFORE_DAMAGE {
+                stores.damage(draws);
+            }
+            let answer = draw_and_define(draws, &mut stores);
+            self.take(answer);
+            self.take_stores(&stores);
+        }
+        for number in NUMBERS.into_iter().chain(OUTSIDE) {
+            let found = find(&stores.volatile, &stores.saved, number);
+            self.take(found.map(|_| ()));
+            // "An outside number or an absent macro gives an empty part."
+            let part = found.unwrap_or_default();
+            self.digest.size(part.len());
+            self.digest.bytes(part);
+        }
+    }
+
+    fn take(&mut self, answer: Result<(), Refusal>) {
+        self.calls += 1;
+        let number = answer.map_or_else(Refusal::number, |()| 0);
+        match REFUSALS.iter().position(|&refusal| refusal == number) {
+            Some(index) => self.refused[index] += 1,
+            None => self.done += 1,
+        }
+        self.digest.number(number);
+    }
+
+    fn take_stores(&mut self, stores: &LentStores) {
+        for store in [&stores.volatile, &stores.saved] {
+            self.digest.number(u32::from(is_well_formed(store)));
+        }
+        self.digest.bytes(&stores.volatile);
+        self.digest.bytes(&stores.saved);
+    }
+}
+
+impl fmt::Display for StoreBlock {
+    fn fmt(&self, line: &mut fmt::Formatter) -> fmt::Result {
+        write!(
+            line,
+            "{} {} cases {} calls {} done",
+            self.name, self.cases, self.calls, self.done
+        )?;
+        for (number, count) in REFUSALS.iter().zip(self.refused) {
+            write!(line, " {count} with {number}")?;
+        }
+        write!(line, " {}", self.digest.result())
+    }
+}
+
+fn draw_stores(draws: &mut Draws, lengths: usize, change: Change) -> LentStores {
+    let volatile = draws.draw_below(lengths);
+    let saved = draws.draw_below(lengths);
+    let mut stores = LentStores::of_zeros(volatile, saved);
+    if change == Change::DrawBytes {
+        for byte in stores.volatile.iter_mut().chain(&mut stores.saved) {
+            *byte = DRAWN_BYTES[draws.draw_below(DRAWN_BYTES.len())];
+        }
+    }
+    stores
+}
+
+/// Draws one call and carries it out.
+fn draw_and_define(draws: &mut Draws, stores: &mut LentStores) -> Result<(), Refusal> {
+    let store = stores.draw_one(draws);
+    let number = draw_number(draws);
+    let contents = draw_contents(draws);
+    define(store, number, &contents)
+}
+
+fn draw_number(draws: &mut Draws) -> i32 {
+    let is_outside = draws.draw_from(8) == 7;
+    let index = draws.draw_below(NUMBERS.len());
+    if is_outside {
+        OUTSIDE[index % OUTSIDE.len()]
+    } else {
+        NUMBERS[index]
+    }
+}
+
+/// "13 means 0, 14 means 256 and 15 means 257".
+fn draw_contents(draws: &mut Draws) -> Vec<i32> {
+    let count = match draws.draw_from(16) {
+        13 => 0,
+        14 => 256,
+        15 => 257,
+        count => count,
+    };
+    let mut contents: Vec<i32> = (0..count).map(|_| draws.draw_from(128) as i32).collect();
+    if draws.draw_from(8) == 0 {
+        let place = draws.draw_below(256);
+        let entry = ODD_ENTRIES[draws.draw_below(ODD_ENTRIES.len())];
+        if !contents.is_empty() {
+            let place = place % contents.len();
+            contents[place] = entry;
+        }
+    }
+    contents
+}
+
+#[cfg(test)]
+mod tests {
+    use super::*;
+
+    #[test]
+    fn the_first_call_by_hand() {
+        // From 1 are drawn 16838 5758 10113 17515 31051 5627: m = 6, the entry 6; 10113 gives 1 content, 17515 that it is 107,
+        // 31051 that it stays.
+        let mut draws = Draws::starting_with(1);
+        assert_eq!(draw_number(&mut draws), 300);
+        assert_eq!(draw_contents(&mut draws), [107]);
+    }
+
+    #[test]
+    fn drawn_stores_have_bytes_of_the_table() {
+        let mut draws = Draws::starting_with(1);
+        for _ in 0..100 {
+            let stores = draw_stores(&mut draws, 13, Change::DrawBytes);
+            assert!(stores.volatile.len() < 13 && stores.saved.len() < 13);
+            let mut bytes = stores.volatile.iter().chain(&stores.saved);
+            assert!(bytes.all(|byte| DRAWN_BYTES.contains(byte)));
+        }
+    }
+
+    #[test]
+    fn every_refusal_comes_a_hundred_times_and_made_stores_are_well_formed() {
+        let mut all = [0; 4];
+        for block in all_blocks() {
+            assert_eq!((block.cases, block.calls), (1000, 24000));
+            for (sum, count) in all.iter_mut().zip(block.refused) {
+                *sum += count;
+            }
+            if block.name == "made" || block.name == "large" {
+                assert_eq!(block.refused[1], 0);
+            }
+        }
+        assert!(all.iter().all(|&count| count >= 100), "{all:?}");
+    }
+
+    #[test]
+    fn a_line_tells_what_the_calls_answered() {
+        let mut block = StoreBlock::new("sample");
+        block.take(Ok(()));
+        block.take(Err(Refusal::StoreTooShort));
+        block.take_stores(&LentStores {
+            volatile: vec![1, 2],
+            saved: vec![0],
+        });
+        let mut digest = Digest::new();
+        digest.bytes(&[0, 13, 0, 1, 1, 2, 0]);
+        let line = format!(
+            "sample 0 cases 2 calls 1 done 0 with 8 0 with 12 1 with 13 0 with 14 {}",
+            digest.result()
+        );
+        assert_eq!(block.to_string(), line);
+    }
+}
