@@ -127,6 +127,15 @@ module _ (L : Layout) (v w s t : List ℕ) (m : ℤ) where
   unfolding lookedUp findRefusal lookRefusal bodyInEither
   looked-alike a b c d = rw (a, b, c, d)
 
+-- two well-formed stores and a number in its range: the body in the first, or else in the second
+looked-so : (L : Layout) (v s : List ℕ) (n : ℤ) → wellFormed L v ≡ true → wellFormed L s ≡ true → isNumber n ≡ true → lookedUp L v s n ≡ orElse (bodyOf (natAbs n) (entries L v)) (bodyOf (natAbs n) (entries L s))
+unfolding lookedUp findRefusal lookRefusal bodyInEither
+looked-so L v s n a b c = rw (a, b, c) (go (orElse (bodyOf (natAbs n) (entries L v)) (bodyOf (natAbs n) (entries L s))))
+  where
+    go : (l : List ℕ) → pick (eqb (demand (leb 1 (length l)) 14 0) 0) l [] ≡ l
+    go [] = refl
+    go (x ∷ xs) = rw (le-leb 1 (length (x ∷ xs)) (omega arith))
+
 module _ (L : Layout) (lawful : Lawful L) (s : List ℕ) (n : ℤ) (cs : List ℤ) (done : defineRefusal L s n cs ≡ 0) (bytes : Bytes s) where
   abbrev after : List ℕ
   after = storeAfter L s n cs
@@ -145,12 +154,13 @@ module _ (L : Layout) (lawful : Lawful L) (s : List ℕ) (n : ℤ) (cs : List �
   unfolding mayDefine
   in-range = and-left (isNumber n) _ (tests L s n cs done .1 .0)
 
-  -- a new body in the volatile store is found there
-  pub new-volatile : (saved : List ℕ) → wellFormed L saved ≡ true → 1 ≤ length cs → lookedUp L after saved n ≡ map natAbs cs
-  unfolding lookedUp findRefusal lookRefusal bodyInEither
-  new-volatile saved e h =
-      rw (formed-after L s n cs done lawful bytes, e, in-range, body-after L s n cs done lawful bytes) (go cs h)
-    where
-      go : (xs : List ℤ) → 1 ≤ length xs → pick (eqb (demand (leb 1 (length (orElse (map natAbs xs) (bodyOf (natAbs n) (entries L saved))))) 14 0) 0) (orElse (map natAbs xs) (bodyOf (natAbs n) (entries L saved))) [] ≡ map natAbs xs
-      go [] l = absurd (omega (arith, l))
-      go (x ∷ xs) l = rw (le-leb 1 (length (map natAbs (x ∷ xs))) (omega arith))
+  -- the macro itself is looked up anew: in the volatile store first, and where its contents are none there, in the saved one
+  pub defined-volatile : (saved : List ℕ) → wellFormed L saved ≡ true → lookedUp L after saved n ≡ orElse (map natAbs cs) (bodyOf (natAbs n) (entries L saved))
+  defined-volatile saved e =
+      looked-so L after saved n (formed-after L s n cs done lawful bytes) e in-range
+      ∙ ap (λ (b : List ℕ). orElse b (bodyOf (natAbs n) (entries L saved))) (body-after L s n cs done lawful bytes)
+
+  pub defined-saved : (volatile : List ℕ) → wellFormed L volatile ≡ true → lookedUp L volatile after n ≡ orElse (bodyOf (natAbs n) (entries L volatile)) (map natAbs cs)
+  defined-saved volatile e =
+      looked-so L volatile after n e (formed-after L s n cs done lawful bytes) in-range
+      ∙ ap (orElse (bodyOf (natAbs n) (entries L volatile))) (body-after L s n cs done lawful bytes)
