@@ -11,7 +11,7 @@ use crate::lent_stores::{LentStores, OUTSIDE};
 use crate::store::define;
 
 const CASES: u64 = 1000;
-const FIRST_BLOCK: usize = 4;
+const FIRST_BLOCK: usize = 5;
 const OUTPUT: usize = 2048;
 const BLANK: u8 = 255;
 const DEFINED_INDICES: usize = 14;

@@ -46,7 +46,8 @@ fn first_entry(bytes: &[u8]) -> Option<(u32, &[u8])> {
     is_body.then_some((packed >> BITS_OF_LENGTH, body))
 }
 
-fn append_entry(bytes: &mut Vec<u8>, number: u32, body: &[u8]) {
+/// The header and the body, be its length one that a store may have or not.
+pub fn append_entry(bytes: &mut Vec<u8>, number: u32, body: &[u8]) {
     let packed = number << BITS_OF_LENGTH | body.len() as u32;
     bytes.extend(&packed.to_be_bytes()[1..]);
     bytes.extend(body);

@@ -6,7 +6,7 @@ use crate::answers::Refusal;
 use crate::digest::Digest;
 use crate::draws::Draws;
 use crate::lent_stores::{LentStores, OUTSIDE};
-use crate::store::{define, find, is_well_formed};
+use crate::store::{append_entry, define, find, is_well_formed};
 
 const CASES: u64 = 1000;
 const CALLS: usize = 12;
@@ -14,6 +14,8 @@ const CALLS_BEFORE_DAMAGE: usize = 6;
 const NUMBERS: [i32; 8] = [0, 1, 2, 5, 127, 128, 300, 32767];
 const ODD_ENTRIES: [i32; 8] = [-1, 127, 128, 255, 256, 283, 32768, -32768];
 const DRAWN_BYTES: [u8; 16] = [0, 0, 0, 0, 0, 0, 0, 1, 2, 2, 3, 4, 10, 127, 128, 255];
+const STEPS: [u32; 8] = [0, 1, 2, 3, 127, 128, 300, 16000];
+const LENGTHS: [usize; 8] = [0, 1, 2, 3, 5, 20, 256, 257];
 const REFUSALS: [u32; 4] = [8, 12, 13, 14];
 
 #[derive(Clone, Copy, PartialEq, Eq)]
@@ -21,14 +23,16 @@ enum Change {
     Nothing,
     Damage,
     DrawBytes,
+    DrawEntries,
 }
 
 /// Each block by its name, its L and what else is done.
-const BLOCKS: [(&str, usize, Change); 4] = [
+const BLOCKS: [(&str, usize, Change); 5] = [
     ("made", 41, Change::Nothing),
     ("large", 601, Change::Nothing),
     ("damaged", 41, Change::Damage),
     ("drawn", 13, Change::DrawBytes),
+    ("entries", 601, Change::DrawEntries),
 ];
 
 /// What the cases of a block come to.
@@ -128,12 +132,34 @@ fn draw_stores(draws: &mut Draws, lengths: usize, change: Change) -> LentStores 
     let volatile = draws.draw_below(lengths);
     let saved = draws.draw_below(lengths);
     let mut stores = LentStores::of_zeros(volatile, saved);
-    if change == Change::DrawBytes {
-        for byte in stores.volatile.iter_mut().chain(&mut stores.saved) {
-            *byte = DRAWN_BYTES[draws.draw_below(DRAWN_BYTES.len())];
+    for store in [&mut stores.volatile, &mut stores.saved] {
+        match change {
+            Change::DrawBytes => draw_bytes(draws, store),
+            Change::DrawEntries => draw_entries(draws, store),
+            Change::Nothing | Change::Damage => {}
         }
     }
     stores
+}
+
+fn draw_bytes(draws: &mut Draws, store: &mut [u8]) {
+    for byte in store {
+        *byte = DRAWN_BYTES[draws.draw_below(DRAWN_BYTES.len())];
+    }
+}
+
+/// "What comes to lie past its end is dropped."
+fn draw_entries(draws: &mut Draws, store: &mut [u8]) {
+    let mut bytes = Vec::new();
+    let mut number = 0;
+    for _ in 0..draws.draw_from(4) {
+        number = (number + STEPS[draws.draw_below(STEPS.len())]) % 32768;
+        let length = LENGTHS[draws.draw_below(LENGTHS.len())];
+        let body: Vec<u8> = (0..length).map(|_| draws.draw_from(128) as u8).collect();
+        append_entry(&mut bytes, number, &body);
+    }
+    bytes.resize(store.len(), 0);
+    store.copy_from_slice(&bytes);
 }
 
 /// Draws one call and carries it out.
@@ -196,6 +222,17 @@ mod tests {
             let mut bytes = stores.volatile.iter().chain(&stores.saved);
             assert!(bytes.all(|byte| DRAWN_BYTES.contains(byte)));
         }
+    }
+
+    #[test]
+    fn some_drawn_entries_are_well_formed_and_some_are_not() {
+        let mut formed = 0;
+        for x in 1..=100 {
+            let mut store = [0; 600];
+            draw_entries(&mut Draws::starting_with(x), &mut store);
+            formed += u32::from(is_well_formed(&store));
+        }
+        assert!((20..=80).contains(&formed), "{formed}");
     }
 
     #[test]

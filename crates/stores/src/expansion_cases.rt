@@ -291,10 +291,10 @@ fn block(shape: Shape, anywhere: bool, troubled: bool, damaged: bool) -> Plan {
 }
 
 pub fn lines() {
-    line(b"calls ", block(Shape::Any, false, false, false), 4);
-    line(b"loops ", block(Shape::Any, true, false, false), 5);
-    line(b"trouble ", block(Shape::Any, false, true, false), 6);
-    line(b"stores ", block(Shape::Any, false, false, true), 7);
-    line(b"chains ", block(Shape::Chain, false, false, false), 8);
-    line(b"wide ", block(Shape::Tree, false, false, false), 9);
+    line(b"calls ", block(Shape::Any, false, false, false), 5);
+    line(b"loops ", block(Shape::Any, true, false, false), 6);
+    line(b"trouble ", block(Shape::Any, false, true, false), 7);
+    line(b"stores ", block(Shape::Any, false, false, true), 8);
+    line(b"chains ", block(Shape::Chain, false, false, false), 9);
+    line(b"wide ", block(Shape::Tree, false, false, false), 10);
 }

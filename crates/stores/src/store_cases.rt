@@ -5,6 +5,8 @@ use crate::digest;
 use crate::draws;
 use crate::lent;
 use crate::print;
+use crate::starts;
+use crate::starts::Start;
 use crate::tallies;
 use crate::tallies::Going;
 use crate::tallies::Tally;
@@ -13,8 +15,8 @@ use crate::tallies::Tally;
 struct Plan {
     // "drawn from L"
     lengths: usize,
+    start: Start,
     damaged: bool,
-    drawn: bool,
 }
 
 const CASES: u32 = 1000;
@@ -23,34 +25,11 @@ const CALLS: u32 = 12;
 
 const LOOK_UPS: usize = 12;
 
-const DRAWN: [u8; 16] = [0, 0, 0, 0, 0, 0, 0, 1, 2, 2, 3, 4, 10, 127, 128, 255];
-
-// ---- what a case starts with
-
-fn drawn_byte(x: u32) -> u8 {
-    let i = (x / 65536 % 16) as usize;
-    DRAWN[i]
-}
-
-// Answers the x behind the draws.
-fn draw_bytes(x: u32, store: &mut [u8]) -> u32 {
-    let mut behind = x;
-    let mut i = 0;
-    while i < store.len() {
-        behind = draws::next(behind);
-        store[i] = drawn_byte(behind);
-        i += 1;
-    }
-    behind
-}
-
-// "in `drawn` each byte, the volatile store's first, is the entry drawn from 16"
+// "for the volatile store and then for the saved one"
 fn started(plan: Plan, x: u32, volatile: &mut [u8], saved: &mut [u8]) -> u32 {
-    if plan.drawn {
-        let behind = draw_bytes(x, volatile);
-        return draw_bytes(behind, saved);
-    }
-    x
+    let start = plan.start;
+    let behind = starts::fill(start, x, volatile);
+    starts::fill(start, behind, saved)
 }
 
 // ---- the calls
@@ -187,17 +166,18 @@ fn line(name: &[u8], plan: Plan, k: u8) {
     print::number(tally.digest, b"\n");
 }
 
-fn block(lengths: usize, damaged: bool, drawn: bool) -> Plan {
+fn block(lengths: usize, start: Start, damaged: bool) -> Plan {
     Plan {
         lengths: lengths,
+        start: start,
         damaged: damaged,
-        drawn: drawn,
     }
 }
 
 pub fn lines() {
-    line(b"made ", block(41, false, false), 0);
-    line(b"large ", block(601, false, false), 1);
-    line(b"damaged ", block(41, true, false), 2);
-    line(b"drawn ", block(13, false, true), 3);
+    line(b"made ", block(41, Start::Zeros, false), 0);
+    line(b"large ", block(601, Start::Zeros, false), 1);
+    line(b"damaged ", block(41, Start::Zeros, true), 2);
+    line(b"drawn ", block(13, Start::Bytes, false), 3);
+    line(b"entries ", block(601, Start::Entries, false), 4);
 }

@@ -2,8 +2,8 @@ use borrow.Author.Needs.{needs}
 use Prim.Native.Nat.{_-_}
 use mathlib.Core.Path.{_≡_}
 use lib.ListN.{length}
-use Rattle.stores.proofs.store_cases.draw_bytes.Statement.{statement}
-use Rattle.stores.proofs.store_cases.draw_bytes.Tie as tie
+use Rattle.stores.proofs.starts.draw_bytes.Statement.{statement}
+use Rattle.stores.proofs.starts.draw_bytes.Tie as tie
 
 abbrev Inv-loop : tie.InvT-loop
 Inv-loop x store₀ behind₀ i₀ store behind i = length store ≡ length store₀
