@@ -21,7 +21,7 @@ const ANY: usize = 14;
 
 const TREE: usize = 13;
 
-// A list that each body fits: 168 entries at most before trouble, which at most doubles them.
+// A list that each body fits: any has 140 entries at most before trouble, which at most doubles them.
 const ROOM: usize = 512;
 
 fn taken_in(taken: Taken, answer: u8, x: u32) -> Taken {
