@@ -1,3 +1,4 @@
 pub mod Reading
 pub mod Within
 pub mod Calls
+pub mod Whole
