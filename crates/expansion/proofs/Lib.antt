@@ -4,3 +4,4 @@ pub mod Walking
 pub mod Entering
 pub mod Answering
 pub mod Coinciding
+pub mod Remembering

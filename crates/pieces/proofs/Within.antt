@@ -70,3 +70,36 @@ module _ (kept : Remembered) (s : List ℕ) (start : ℕ) where
   pub called-onward : {a : ℤ} {n : ℕ} {k : Remembered} → pieceAt kept s start ≡ Called a n k → (start < n) × (n ≤ length s)
   unfolding Onward
   called-onward e = subst (Onward s start) e (onward kept s start)
+
+-- ---- what is remembered stays inside
+
+unfoldable Keeps : Piece → Type 0
+Keeps End = Unit {0}
+Keeps (Copied n k) = inside (k .point) ≡ true
+Keeps (Called a n k) = inside (k .point) ≡ true
+Keeps Broken = Unit {0}
+
+command-keeps : (first second : ℕ) (values : List Value) (n : ℕ) (k : Remembered) → inside (k .point) ≡ true → Keeps (commandPiece first second values n k)
+unfolding commandPiece Keeps
+command-keeps first second values n k h = by-pick Keeps (isCall first second) _ _ (λ t. h) (λ t. h)
+
+item-keeps : (kept : Remembered) (s : List ℕ) (start : ℕ) → inside (kept .point) ≡ true → (i : Itemed Meaning) → Ends s start i → Keeps (pieceOf kept (toldItem i))
+unfolding Keeps Ends pieceOf toldItem
+item-keeps kept s start j nothing h = tt
+item-keeps kept s start j (text b n) h = j
+item-keeps kept s start j (command m) h = command-keeps (m .first) (m .second) (m .values) (m .next) (m .kept) (h .1)
+item-keeps kept s start j (trouble e p n k) h = tt
+item-keeps kept s start j (unread e p) h = tt
+
+module _ (kept : Remembered) (s : List ℕ) (start : ℕ) (j : inside (kept .point) ≡ true) where
+  keeps : start < length s → Keeps (pieceAt kept s start)
+  unfolding pieceAt
+  keeps l = item-keeps kept s start j (itemAt kept s start 256) (item-ends kept s start 256 j l)
+
+  pub copied-inside : {n : ℕ} {k : Remembered} → pieceAt kept s start ≡ Copied n k → inside (k .point) ≡ true
+  unfolding Keeps
+  copied-inside e = let w = copied-onward kept s start e in subst Keeps e (keeps (omega (arith, w .0, w .1)))
+
+  pub called-inside : {a : ℤ} {n : ℕ} {k : Remembered} → pieceAt kept s start ≡ Called a n k → inside (k .point) ≡ true
+  unfolding Keeps
+  called-inside e = let w = called-onward kept s start e in subst Keeps e (keeps (omega (arith, w .0, w .1)))

@@ -26,8 +26,8 @@ leading (place p ∷ vs) = pos 0
 unfoldable pub commandPiece : (first second : ℕ) → List Value → ℕ → Remembered → Piece
 commandPiece first second values next after = pick (isCall first second) (Called (leading values) next after) (Copied next after)
 
--- "17: macro body holds a refused or cut command"; KD and KO are commands like others here. With room for the most entries an item is
--- always read.
+-- "17: macro body holds a refused or cut command"; KD and KO are commands like others here. From a start within the body and a point inside,
+-- and with room for the most entries, an item is always read.
 unfoldable pub pieceOf : Remembered → Itemed Told → Piece
 pieceOf kept nothing = End
 pieceOf kept (text b n) = Copied n kept
