@@ -4,13 +4,12 @@ use std::fmt;
 
 use crate::answers::Refusal;
 use crate::calls::{draw_call, Call};
-use crate::digest::Digest;
 use crate::draws::Draws;
 use crate::pixels::Surface;
 use crate::record::{Record, Size};
+use crate::tally::{run_cases, Tally};
 use crate::trouble::{comes, spoil_record, Odds};
 
-const CASES: u64 = 1000;
 const CALLS: usize = 6;
 const BITS: [usize; 8] = [0, 1, 2, 3, 6, 1, 2, 3];
 
@@ -137,43 +136,24 @@ fn draw_record(draws: &mut Draws, size: Size) -> Record {
     }
 }
 
-/// What the cases of a block come to.
+/// Refusals come with 8, 9, 10 and 11.
 #[derive(Debug)]
-pub struct CaseBlock {
-    name: &'static str,
-    cases: u64,
-    calls: u64,
-    done: u64,
-    /// Those with 8, 9, 10 and 11.
-    refused: [u64; 4],
-    digest: Digest,
-}
+pub struct CaseBlock(Tally<4>);
 
 pub fn all_blocks() -> impl Iterator<Item = CaseBlock> {
     (0..BLOCKS.len()).map(run_block)
 }
 
-/// "Starts its case c (0 to 999) with x = 1 + 1000 * k + c."
 fn run_block(number: usize) -> CaseBlock {
     let (name, odds) = BLOCKS[number];
     let mut block = CaseBlock::new(name);
-    for c in 0..CASES {
-        let mut draws = Draws::starting_with(1 + 1000 * number as u64 + c);
-        block.run_case(&mut draws, odds);
-    }
+    run_cases(number, |draws| block.run_case(draws, odds));
     block
 }
 
 impl CaseBlock {
     fn new(name: &'static str) -> CaseBlock {
-        CaseBlock {
-            name,
-            cases: 0,
-            calls: 0,
-            done: 0,
-            refused: [0; 4],
-            digest: Digest::new(),
-        }
+        CaseBlock(Tally::new(name, "calls", [8, 9, 10, 11]))
     }
 
     fn run_case(&mut self, draws: &mut Draws, odds: Odds) {
@@ -182,42 +162,29 @@ impl CaseBlock {
             let answer = case.call(draws, odds);
             self.take(answer, &case.record);
         }
-        self.digest.bytes(&case.bytes);
-        self.cases += 1;
+        self.0.digest.bytes(&case.bytes);
+        self.0.cases += 1;
     }
 
     fn take(&mut self, answer: Result<usize, Refusal>, record: &Record) {
-        self.calls += 1;
-        let number = answer.map_or_else(Refusal::number, |_| 0);
-        match number {
-            8..=11 => self.refused[number as usize - 8] += 1,
-            _ => self.done += 1,
-        }
-        self.digest.number(number);
-        self.digest.size(answer.unwrap_or(0));
+        self.0.take(answer.map_or_else(Refusal::number, |_| 0));
+        self.0.digest.size(answer.unwrap_or(0));
         for field in record.fields() {
-            self.digest.size(field);
+            self.0.digest.size(field);
         }
     }
 }
 
 impl fmt::Display for CaseBlock {
     fn fmt(&self, line: &mut fmt::Formatter) -> fmt::Result {
-        write!(
-            line,
-            "{} {} cases {} calls {} done",
-            self.name, self.cases, self.calls, self.done
-        )?;
-        for (number, count) in (8..).zip(self.refused) {
-            write!(line, " {count} with {number}")?;
-        }
-        write!(line, " {}", self.digest.result())
+        self.0.fmt(line)
     }
 }
 
 #[cfg(test)]
 mod tests {
     use super::*;
+    use crate::digest::Digest;
 
     #[test]
     fn a_drawn_record_is_valid() {
@@ -251,16 +218,16 @@ mod tests {
     #[test]
     fn without_trouble_only_missing_bits_are_refused() {
         let block = run_block(0);
-        assert_eq!((block.cases, block.calls), (1000, 6000));
-        assert_eq!(block.done + block.refused[1], 6000);
-        assert!(block.done > 4000);
+        assert_eq!((block.0.cases, block.0.calls), (1000, 6000));
+        assert_eq!(block.0.done + block.0.refused[1], 6000);
+        assert!(block.0.done > 4000);
     }
 
     #[test]
     fn every_refusal_comes_a_hundred_times() {
         let mut all = [0; 4];
         for block in all_blocks() {
-            for (sum, count) in all.iter_mut().zip(block.refused) {
+            for (sum, count) in all.iter_mut().zip(block.0.refused) {
                 *sum += count;
             }
         }

@@ -4,13 +4,12 @@ use std::fmt;
 
 use crate::answers::Refusal;
 use crate::bodies::{draw_body, draw_link, draw_node, draw_trouble, Calls, NUMBERS};
-use crate::digest::Digest;
 use crate::draws::Draws;
 use crate::expansion::{expand, Expanded};
 use crate::lent_stores::{LentStores, OUTSIDE};
 use crate::store::define;
+use crate::tally::{run_cases, Tally};
 
-const CASES: u64 = 1000;
 const FIRST_BLOCK: usize = 5;
 const OUTPUT: usize = 2048;
 const BLANK: u8 = 255;
@@ -52,47 +51,28 @@ impl Kind {
     }
 }
 
-/// What the cases of a block come to.
 #[derive(Debug)]
-pub struct ExpansionBlock {
-    name: &'static str,
-    cases: u64,
-    runs: u64,
-    done: u64,
-    /// In the order of `REFUSALS`.
-    refused: [u64; 7],
-    digest: Digest,
-}
+pub struct ExpansionBlock(Tally<7>);
 
 pub fn all_blocks() -> impl Iterator<Item = ExpansionBlock> {
     (0..BLOCKS.len()).map(run_block)
 }
 
-/// "Starts its case c (0 to 999) with x = 1 + 1000 * k + c." The blocks of stores come first.
+/// The blocks of stores come first.
 fn run_block(number: usize) -> ExpansionBlock {
     let (name, kind) = BLOCKS[number];
     let mut block = ExpansionBlock::new(name);
-    for c in 0..CASES {
-        let first = 1 + 1000 * (FIRST_BLOCK + number) as u64;
-        block.run_case(&mut Draws::starting_with(first + c), kind);
-    }
+    run_cases(FIRST_BLOCK + number, |draws| block.run_case(draws, kind));
     block
 }
 
 impl ExpansionBlock {
     fn new(name: &'static str) -> ExpansionBlock {
-        ExpansionBlock {
-            name,
-            cases: 0,
-            runs: 0,
-            done: 0,
-            refused: [0; 7],
-            digest: Digest::new(),
-        }
+        ExpansionBlock(Tally::new(name, "runs", REFUSALS))
     }
 
     fn run_case(&mut self, draws: &mut Draws, kind: Kind) {
-        self.cases += 1;
+        self.0.cases += 1;
         let mut stores = draw_stores(draws, kind);
         match kind {
             Kind::Chains => self.define_chain(draws, &mut stores),
@@ -113,7 +93,7 @@ impl ExpansionBlock {
         let contents: Vec<i32> = body.iter().map(|&byte| i32::from(byte)).collect();
         let answer = define(store, NUMBERS[index], &contents);
         let number = answer.map_or_else(Refusal::number, |()| 0);
-        self.digest.number(number);
+        self.0.digest.number(number);
     }
 
     fn define_any(&mut self, draws: &mut Draws, store: &mut [u8], kind: Kind) {
@@ -171,34 +151,20 @@ impl ExpansionBlock {
         let mut out = [BLANK; OUTPUT];
         let answer = expand(&stores.volatile, &stores.saved, number, &mut out[..output]);
         self.take(answer);
-        self.digest.bytes(&out);
+        self.0.digest.bytes(&out);
         answer
     }
 
     fn take(&mut self, answer: Result<Expanded, Refusal>) {
-        self.runs += 1;
-        let number = answer.map_or_else(Refusal::number, |_| 0);
-        match REFUSALS.iter().position(|&refusal| refusal == number) {
-            Some(index) => self.refused[index] += 1,
-            None => self.done += 1,
-        }
-        self.digest.number(number);
-        self.digest.size(answer.map_or(0, |done| done.bytes));
-        self.digest.size(answer.map_or(0, |done| done.entered));
+        self.0.take(answer.map_or_else(Refusal::number, |_| 0));
+        self.0.digest.size(answer.map_or(0, |done| done.bytes));
+        self.0.digest.size(answer.map_or(0, |done| done.entered));
     }
 }
 
 impl fmt::Display for ExpansionBlock {
     fn fmt(&self, line: &mut fmt::Formatter) -> fmt::Result {
-        write!(
-            line,
-            "{} {} cases {} runs {} done",
-            self.name, self.cases, self.runs, self.done
-        )?;
-        for (number, count) in REFUSALS.iter().zip(self.refused) {
-            write!(line, " {count} with {number}")?;
-        }
-        write!(line, " {}", self.digest.result())
+        self.0.fmt(line)
     }
 }
 
@@ -222,13 +188,14 @@ fn draw_start(draws: &mut Draws, kind: Kind) -> i32 {
 #[cfg(test)]
 mod tests {
     use super::*;
+    use crate::digest::Digest;
 
     #[test]
     fn every_refusal_comes_a_hundred_times() {
         let mut all = [0; 7];
         for block in all_blocks() {
-            assert_eq!((block.cases, block.runs), (1000, 4000));
-            for (sum, count) in all.iter_mut().zip(block.refused) {
+            assert_eq!((block.0.cases, block.0.calls), (1000, 4000));
+            for (sum, count) in all.iter_mut().zip(block.0.refused) {
                 *sum += count;
             }
         }

@@ -29,6 +29,7 @@ mod store;
 mod store_cases;
 mod streams;
 mod table;
+mod tally;
 mod trouble;
 mod values;
 mod vectors;

@@ -3,12 +3,11 @@
 use std::fmt;
 
 use crate::answers::Refusal;
-use crate::digest::Digest;
 use crate::draws::Draws;
 use crate::lent_stores::{LentStores, OUTSIDE};
 use crate::store::{append_entry, define, find, is_well_formed};
+use crate::tally::{run_cases, Tally};
 
-const CASES: u64 = 1000;
 const CALLS: usize = 12;
 const CALLS_BEFORE_DAMAGE: usize = 6;
 const NUMBERS: [i32; 8] = [0, 1, 2, 5, 127, 128, 300, 32767];
@@ -35,47 +34,27 @@ const BLOCKS: [(&str, usize, Change); 5] = [
     ("entries", 601, Change::DrawEntries),
 ];
 
-/// What the cases of a block come to.
 #[derive(Debug)]
-pub struct StoreBlock {
-    name: &'static str,
-    cases: u64,
-    calls: u64,
-    done: u64,
-    /// Those with 8, 12, 13 and 14.
-    refused: [u64; 4],
-    digest: Digest,
-}
+pub struct StoreBlock(Tally<4>);
 
 pub fn all_blocks() -> impl Iterator<Item = StoreBlock> {
     (0..BLOCKS.len()).map(run_block)
 }
 
-/// "Starts its case c (0 to 999) with x = 1 + 1000 * k + c."
 fn run_block(number: usize) -> StoreBlock {
     let (name, lengths, change) = BLOCKS[number];
     let mut block = StoreBlock::new(name);
-    for c in 0..CASES {
-        let mut draws = Draws::starting_with(1 + 1000 * number as u64 + c);
-        block.run_case(&mut draws, lengths, change);
-    }
+    run_cases(number, |draws| block.run_case(draws, lengths, change));
     block
 }
 
 impl StoreBlock {
     fn new(name: &'static str) -> StoreBlock {
-        StoreBlock {
-            name,
-            cases: 0,
-            calls: 0,
-            done: 0,
-            refused: [0; 4],
-            digest: Digest::new(),
-        }
+        StoreBlock(Tally::new(name, "calls", REFUSALS))
     }
 
     fn run_case(&mut self, draws: &mut Draws, lengths: usize, change: Change) {
-        self.cases += 1;
+        self.0.cases += 1;
         let mut stores = draw_stores(draws, lengths, change);
         for call in 0..CALLS {
             if change == Change::Damage && call == CALLS_BEFORE_DAMAGE {
@@ -90,41 +69,27 @@ impl StoreBlock {
             self.take(found.map(|_| ()));
             // "An outside number or an absent macro gives an empty part."
             let part = found.unwrap_or_default();
-            self.digest.size(part.len());
-            self.digest.bytes(part);
+            self.0.digest.size(part.len());
+            self.0.digest.bytes(part);
         }
     }
 
     fn take(&mut self, answer: Result<(), Refusal>) {
-        self.calls += 1;
-        let number = answer.map_or_else(Refusal::number, |()| 0);
-        match REFUSALS.iter().position(|&refusal| refusal == number) {
-            Some(index) => self.refused[index] += 1,
-            None => self.done += 1,
-        }
-        self.digest.number(number);
+        self.0.take(answer.map_or_else(Refusal::number, |()| 0));
     }
 
     fn take_stores(&mut self, stores: &LentStores) {
         for store in [&stores.volatile, &stores.saved] {
-            self.digest.number(u32::from(is_well_formed(store)));
+            self.0.digest.number(u32::from(is_well_formed(store)));
         }
-        self.digest.bytes(&stores.volatile);
-        self.digest.bytes(&stores.saved);
+        self.0.digest.bytes(&stores.volatile);
+        self.0.digest.bytes(&stores.saved);
     }
 }
 
 impl fmt::Display for StoreBlock {
     fn fmt(&self, line: &mut fmt::Formatter) -> fmt::Result {
-        write!(
-            line,
-            "{} {} cases {} calls {} done",
-            self.name, self.cases, self.calls, self.done
-        )?;
-        for (number, count) in REFUSALS.iter().zip(self.refused) {
-            write!(line, " {count} with {number}")?;
-        }
-        write!(line, " {}", self.digest.result())
+        self.0.fmt(line)
     }
 }
 
@@ -203,6 +168,7 @@ fn draw_contents(draws: &mut Draws) -> Vec<i32> {
 #[cfg(test)]
 mod tests {
     use super::*;
+    use crate::digest::Digest;
 
     #[test]
     fn the_first_call_by_hand() {
@@ -239,12 +205,12 @@ mod tests {
     fn every_refusal_comes_a_hundred_times_and_made_stores_are_well_formed() {
         let mut all = [0; 4];
         for block in all_blocks() {
-            assert_eq!((block.cases, block.calls), (1000, 24000));
-            for (sum, count) in all.iter_mut().zip(block.refused) {
+            assert_eq!((block.0.cases, block.0.calls), (1000, 24000));
+            for (sum, count) in all.iter_mut().zip(block.0.refused) {
                 *sum += count;
             }
-            if block.name == "made" || block.name == "large" {
-                assert_eq!(block.refused[1], 0);
+            if block.0.name == "made" || block.0.name == "large" {
+                assert_eq!(block.0.refused[1], 0);
             }
         }
         assert!(all.iter().all(|&count| count >= 100), "{all:?}");
