@@ -1,5 +1,5 @@
 pub mod Track
 pub mod Round
 pub mod Names
-pub mod Sessions
+pub mod Sequences
 pub mod Theorem

@@ -16,7 +16,7 @@ use Rattle.balance.specs.Balance.{Call, State, ran, coloursBy, count, la
 use Rattle.balance.proofs.Track.{along, elsewhere-ext, balance-any, along-other, coloured-inks, kept-last}
 use Rattle.balance.proofs.Round.{track-round, track-inside}
 use Rattle.balance.proofs.Names.{inked-all, inked-by, returns-named}
-use Rattle.balance.proofs.Sessions.{ran-surface, ran-beam}
+use Rattle.balance.proofs.Sequences.{ran-surface, ran-beam}
 
 -- ---- marks laid from a beam on
 
