@@ -1,0 +1,37 @@
+use Rattle.pixel_calls.proofs.Answers.{set, viewport-given, point-given}
+use borrow.Author.Needs.{needs}
+use Rattle.pixel_calls.proofs.ardh_set_viewport.Statement.{statement}
+use Rattle.pixel_calls.proofs.ardh_set_viewport.Tie as tie
+
+point-of-requires : tie.Need-point-of-requires
+point-of-requires c κs = search needs
+
+point-of-requires-2 : tie.Need-point-of-requires-2
+point-of-requires-2 c κs = search needs
+
+beam-in-requires : tie.Need-beam-in-requires
+beam-in-requires c κs = search needs
+
+set-viewport-requires : tie.Need-set-viewport-requires
+set-viewport-requires c κs = search needs
+
+set-fields-requires : tie.Need-set-fields-requires
+set-fields-requires c κs = search needs
+
+set-number-requires : tie.Need-set-number-requires
+set-number-requires c κs = search needs
+
+returns : tie.Need-returns
+returns c = search (needs, set, viewport-given, point-given)
+
+pub ardh-set-viewport-spec : {M : Type 1} → statement M
+ardh-set-viewport-spec =
+    tie.close
+    (tie.spec
+    point-of-requires
+    point-of-requires-2
+    beam-in-requires
+    set-viewport-requires
+    set-fields-requires
+    set-number-requires
+    returns)

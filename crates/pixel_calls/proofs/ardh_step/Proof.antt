@@ -1,0 +1,24 @@
+use Rattle.pixel_calls.proofs.Answers.{set, step-given}
+use borrow.Author.Needs.{needs}
+use Rattle.pixel_calls.proofs.ardh_step.Statement.{statement}
+use Rattle.pixel_calls.proofs.ardh_step.Tie as tie
+
+beam-in-requires : tie.Need-beam-in-requires
+beam-in-requires c κs = search needs
+
+step-on-requires : tie.Need-step-on-requires
+step-on-requires c κs = search needs
+
+set-fields-requires : tie.Need-set-fields-requires
+set-fields-requires c κs = search needs
+
+set-number-requires : tie.Need-set-number-requires
+set-number-requires c κs = search needs
+
+returns : tie.Need-returns
+returns c = search (needs, set, step-given)
+
+pub ardh-step-spec : {M : Type 1} → statement M
+ardh-step-spec =
+    tie.close
+    (tie.spec beam-in-requires step-on-requires set-fields-requires set-number-requires returns)
