@@ -9,9 +9,19 @@ pub data Answer (A : Type 0) : Type 0 where
   refused : ℕ → ℕ → Answer A
 
 -- "0 means done"
-abbrev pub number : {A : Type 0} → Answer A → ℕ
+unfoldable pub number : {A : Type 0} → Answer A → ℕ
 number (done a) = 0
 number (refused e p) = e
+
+-- what the answer has; with a refusal, none: "counts with a refusal are 0"
+unfoldable pub valueOr : {A B : Type 0} → (none : B) → (A → B) → Answer A → B
+valueOr none value (done a) = value a
+valueOr none value (refused e p) = none
+
+-- where reading goes on; "a reading refusal gives its place"
+unfoldable pub placeOf : {A : Type 0} → (next : A → ℕ) → Answer A → ℕ
+placeOf next (done a) = next a
+placeOf next (refused e p) = p
 
 -- What a reading that is done gives: the value, the place of its last byte, and where reading goes on.
 pub record Read (A : Type 0) : Type 0 where

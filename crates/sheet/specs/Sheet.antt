@@ -63,5 +63,5 @@ paper-of r = r .paper
 
 -- the one claim
 pub all-as-set : map given-of sheet ≡ map paper-of sheet
-unfolding spellOf highsOf integerFrom byteAt pairAt spellBytes rasterMarks characterMarks leftAfter pixels runMarks moved stepped colours
+unfolding number spellOf highsOf integerFrom byteAt pairAt spellBytes rasterMarks characterMarks leftAfter pixels runMarks moved stepped colours
 all-as-set = refl

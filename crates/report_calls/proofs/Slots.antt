@@ -1,0 +1,119 @@
+-- From what the report calls answer to the numbers that the exported ones hand out.
+use Prim.Native.Nat.{ℕ}
+use mathlib.Core.Path.{_≡_, sym, _∙_, ap}
+use mathlib.Core.List.{List}
+use lib.IntN.{ℤ, pos}
+use mir.Syntax.{w32}
+use mir.Val.{SFits, toZ, ofZ}
+use mir.Facts.{toZ-ofZ}
+use Rattle.refusals.specs.declared.Refusal.{Refusal}
+use Rattle.refusals.specs.Refusals.{numberOf}
+use Rattle.refusals.specs.Answers.{Answer, done, refused, Read, number, valueOr, placeOf}
+use Rattle.wire.specs.declared.Written.{Written}
+use Rattle.wire.specs.declared.Written.the-variants.{Next, NotWritten}
+use Rattle.wire.specs.Sending.{writtenOf, afterWrite}
+use Rattle.numbers.specs.declared.IntegerRead.{IntegerRead}
+use Rattle.numbers.specs.declared.IntegerRead.the-variants.{Integer, NoInteger}
+use Rattle.numbers.specs.Integers.{integerOf}
+use Rattle.reports.specs.declared.StringRead.{StringRead}
+use Rattle.reports.specs.declared.StringRead.the-variants.{Entries, NoString}
+use Rattle.reports.specs.Reading.{Held, stringOf, afterString}
+use Rattle.reports.specs.Writing.{spellReport, writeReport}
+
+-- ---- an integer that was read
+
+module _ {r : IntegerRead} {d : Answer (Read ℤ)} (e : integerOf r ≡ d) where
+  module _ {v : ℤ} {p n : ℕ} (g : r ≡ Integer v p n) where
+    pub integer-done : 0 ≡ number d
+    unfolding integerOf number
+    integer-done = rw (sym e, g)
+
+    pub integer-value : {x : ℤ} → x ≡ v → x ≡ valueOr (pos 0) (λ (a : Read ℤ). a .value) d
+    unfolding integerOf valueOr
+    integer-value j = rw (sym e, g) j
+
+    pub integer-next : n ≡ placeOf (λ (a : Read ℤ). a .next) d
+    unfolding integerOf placeOf
+    integer-next = rw (sym e, g)
+
+  module _ {f : Refusal} {p : ℕ} (g : r ≡ NoInteger f p) where
+    pub integer-refused : {k : ℕ} → k ≡ numberOf f → k ≡ number d
+    unfolding integerOf number
+    integer-refused j = rw (sym e, g) j
+
+    pub integer-none : pos 0 ≡ valueOr (pos 0) (λ (a : Read ℤ). a .value) d
+    unfolding integerOf valueOr
+    integer-none = rw (sym e, g)
+
+    pub integer-place : p ≡ placeOf (λ (a : Read ℤ). a .next) d
+    unfolding integerOf placeOf
+    integer-place = rw (sym e, g)
+
+pub ruleset integer-read = (integer-done, integer-value, integer-next)
+pub ruleset no-integer = (integer-refused, integer-none, integer-place)
+
+-- ---- a string that was read
+
+module _ (r : StringRead) {d : Answer Held} (e : stringOf r ≡ d) where
+  pub string-list : (s : List ℕ) (at : ℕ) (l : List ℤ) {o : List ℤ} → o ≡ afterString (stringOf r) s at l → o ≡ afterString d s at l
+  string-list s at l j = j ∙ ap (λ x. afterString x s at l) e
+
+module _ {r : StringRead} {d : Answer Held} (e : stringOf r ≡ d) where
+  module _ {k n : ℕ} (g : r ≡ Entries k n) where
+    pub string-done : 0 ≡ number d
+    unfolding stringOf number
+    string-done = rw (sym e, g)
+
+    pub string-count : k ≡ valueOr 0 (λ (h : Held). h .count) d
+    unfolding stringOf valueOr
+    string-count = rw (sym e, g)
+
+    pub string-next : n ≡ placeOf (λ (h : Held). h .next) d
+    unfolding stringOf placeOf
+    string-next = rw (sym e, g)
+
+  module _ {f : Refusal} {p : ℕ} (g : r ≡ NoString f p) where
+    pub string-refused : {k : ℕ} → k ≡ numberOf f → k ≡ number d
+    unfolding stringOf number
+    string-refused j = rw (sym e, g) j
+
+    pub string-none : 0 ≡ valueOr 0 (λ (h : Held). h .count) d
+    unfolding stringOf valueOr
+    string-none = rw (sym e, g)
+
+    pub string-place : p ≡ placeOf (λ (h : Held). h .next) d
+    unfolding stringOf placeOf
+    string-place = rw (sym e, g)
+
+
+-- ---- what was written
+
+module _ (r : Written) {d : Answer ℕ} (e : writtenOf r ≡ d) where
+  pub written-out : {w x : List ℕ} → w ≡ x → (l : List ℕ) (at : ℕ) {o : List ℕ} → o ≡ afterWrite (writtenOf r) w l at → o ≡ afterWrite d x l at
+  written-out ew l at j = j ∙ rw (e, ew)
+
+module _ {r : Written} {d : Answer ℕ} (e : writtenOf r ≡ d) where
+  module _ {n : ℕ} (g : r ≡ Next n) where
+    pub written-done : 0 ≡ number d
+    unfolding writtenOf number
+    written-done = rw (sym e, g)
+
+    pub written-next : n ≡ valueOr 0 (λ (k : ℕ). k) d
+    unfolding writtenOf valueOr
+    written-next = rw (sym e, g)
+
+  module _ {f : Refusal} (g : r ≡ NotWritten f) where
+    pub written-refused : {k : ℕ} → k ≡ numberOf f → k ≡ number d
+    unfolding writtenOf number
+    written-refused j = rw (sym e, g) j
+
+    pub written-none : 0 ≡ valueOr 0 (λ (k : ℕ). k) d
+    unfolding writtenOf valueOr
+    written-none = rw (sym e, g)
+
+-- a signed argument comes back from a callee's contract as the machine reads it
+pub report-given : (v : ℤ) → SFits w32 v → {d : Answer ℕ} (room at : ℕ) → d ≡ writeReport (toZ w32 (ofZ w32 v)) room at → d ≡ writeReport v room at
+report-given v f room at e = e ∙ rw (toZ-ofZ f)
+
+pub spelling-given : (v : ℤ) → SFits w32 v → spellReport (toZ w32 (ofZ w32 v)) ≡ spellReport v
+spelling-given v f = rw (toZ-ofZ f)

@@ -1,0 +1,110 @@
+// The report calls for programs in other languages (include/ardhrumesh.h): the answer is a number, and what goes with it is written to lent slots.
+ghost use mathlib.Core.Path.{_≡_};
+ghost use Prim.Native.Nat.{ℕ};
+ghost use lib.ListN.{length};
+ghost use lib.IntN.{ℤ, pos};
+ghost use Rattle.refusals.specs.Answers.{number, valueOr, placeOf, Read};
+ghost use Rattle.wire.specs.Sending.{afterWrite};
+ghost use Rattle.reports.specs.Reading.{Held, reportAt, stringAt, afterString};
+ghost use Rattle.reports.specs.Writing.{spellReport, writeReport, spellString, writeString};
+use numbers::IntegerRead;
+use reports::StringRead;
+use wire::Written;
+
+#[no_mangle]
+pub extern "C" fn ardh_read_integer_report(
+    bytes: &[u8],
+    start: usize,
+    value: &mut i32,
+    place: &mut usize,
+) -> u8
+    ensures { λ r. ⌜ r ≡ number (reportAt (now (bytes .entry)) start) ⌝ }
+    ensures { λ _. ⌜ now (value .exit) ≡ valueOr (pos 0) (λ (v : Read ℤ). v .value) (reportAt (now (bytes .entry)) start) ⌝ }
+    ensures { λ _. ⌜ now (place .exit) ≡ placeOf (λ (v : Read ℤ). v .next) (reportAt (now (bytes .entry)) start) ⌝ }
+{
+    match reports::read_integer(bytes, start) {
+        IntegerRead::Integer(v, _, next) => {
+            *value = v;
+            *place = next;
+            0
+        }
+        IntegerRead::NoInteger(e, p) => {
+            *value = 0;
+            *place = p;
+            refusals::number(e)
+        }
+    }
+}
+
+#[no_mangle]
+pub extern "C" fn ardh_read_string_report(
+    bytes: &[u8],
+    start: usize,
+    list: &mut [i32],
+    count: &mut usize,
+    place: &mut usize,
+) -> u8
+    ensures { λ r. ⌜ r ≡ number (stringAt (now (bytes .entry)) start (length (now (list .entry)))) ⌝ }
+    ensures { λ _. ⌜ now (count .exit) ≡ valueOr 0 (λ (h : Held). h .count) (stringAt (now (bytes .entry)) start (length (now (list .entry)))) ⌝ }
+    ensures { λ _. ⌜ now (place .exit) ≡ placeOf (λ (h : Held). h .next) (stringAt (now (bytes .entry)) start (length (now (list .entry)))) ⌝ }
+    ensures { λ _. ⌜ now (list .exit) ≡ afterString (stringAt (now (bytes .entry)) start (length (now (list .entry)))) (now (bytes .entry)) start (now (list .entry)) ⌝ }
+{
+    match reports::read_string(bytes, start, list) {
+        StringRead::Entries(n, next) => {
+            *count = n;
+            *place = next;
+            0
+        }
+        StringRead::NoString(e, p) => {
+            *count = 0;
+            *place = p;
+            refusals::number(e)
+        }
+    }
+}
+
+#[no_mangle]
+pub extern "C" fn ardh_write_integer_report(
+    value: i32,
+    out: &mut [u8],
+    start: usize,
+    next: &mut usize,
+) -> u8
+    ensures { λ r. ⌜ r ≡ number (writeReport value (length (now (out .entry))) start) ⌝ }
+    ensures { λ _. ⌜ now (next .exit) ≡ valueOr 0 (λ (n : ℕ). n) (writeReport value (length (now (out .entry))) start) ⌝ }
+    ensures { λ _. ⌜ now (out .exit) ≡ afterWrite (writeReport value (length (now (out .entry))) start) (spellReport value) (now (out .entry)) start ⌝ }
+{
+    match reports::write_integer(value, out, start) {
+        Written::Next(n) => {
+            *next = n;
+            0
+        }
+        Written::NotWritten(e) => {
+            *next = 0;
+            refusals::number(e)
+        }
+    }
+}
+
+#[no_mangle]
+pub extern "C" fn ardh_write_string_report(
+    list: &[i32],
+    out: &mut [u8],
+    start: usize,
+    next: &mut usize,
+) -> u8
+    ensures { λ r. ⌜ r ≡ number (writeString (now (list .entry)) (length (now (out .entry))) start) ⌝ }
+    ensures { λ _. ⌜ now (next .exit) ≡ valueOr 0 (λ (n : ℕ). n) (writeString (now (list .entry)) (length (now (out .entry))) start) ⌝ }
+    ensures { λ _. ⌜ now (out .exit) ≡ afterWrite (writeString (now (list .entry)) (length (now (out .entry))) start) (spellString (now (list .entry))) (now (out .entry)) start ⌝ }
+{
+    match reports::write_string(list, out, start) {
+        Written::Next(n) => {
+            *next = n;
+            0
+        }
+        Written::NotWritten(e) => {
+            *next = 0;
+            refusals::number(e)
+        }
+    }
+}
