@@ -167,7 +167,7 @@ fn both(a: bool, b: bool) -> bool
     false
 }
 
-fn kind_number(kind: Kind) -> u8
+pub fn kind_number(kind: Kind) -> u8
     ensures { λ r. ⌜ r ≡ kindNumber kind ⌝ }
 {
     match kind {

@@ -50,6 +50,7 @@ module _ {r : IntegerRead} {d : Answer (Read ℤ)} (e : integerOf r ≡ d) where
     integer-place = rw (sym e, g)
 
 pub ruleset integer-read = (integer-done, integer-value, integer-next)
+
 pub ruleset no-integer = (integer-refused, integer-none, integer-place)
 
 -- ---- a string that was read
@@ -84,7 +85,6 @@ module _ {r : StringRead} {d : Answer Held} (e : stringOf r ≡ d) where
     pub string-place : p ≡ placeOf (λ (h : Held). h .next) d
     unfolding stringOf placeOf
     string-place = rw (sym e, g)
-
 
 -- ---- what was written
 

@@ -1,0 +1,246 @@
+// The stream's calls for programs in other languages (include/ardhrumesh.h): the next item, and writing a command. The answer is a number,
+// what goes with it is written to lent slots, and the remembered point is a lent array.
+ghost use mathlib.Core.Path.{_≡_};
+ghost use Prim.Native.Nat.{ℕ};
+ghost use lib.ListN.{length};
+ghost use lib.IntN.{pos};
+ghost use Rattle.refusals.specs.Answers.{number, valueOr};
+ghost use Rattle.wire.specs.Sending.{afterWrite};
+ghost use Rattle.table.specs.Table.{kindOf};
+ghost use Rattle.parameters.specs.Shapes.{valuesOf};
+ghost use Rattle.commands.specs.Writing.{spellCommand, writeCommand};
+ghost use Rattle.stream.specs.Items.{itemOf, itemAt, toldItem, afterItem};
+ghost use Rattle.stream_calls.specs.Slots.{keptIn, twoOf, itemKept, itemNumber, foundNumber, itemFields, fourOf, itemValues};
+ghost use Rattle.stream_calls.specs.Given.{ofKind, ofFound, commandGiven, keptAfter};
+use commands::Command;
+use memory::Point;
+use memory::Remembered;
+use parameters::Parameters;
+use parameters::Real;
+use refusals::Refusal;
+use stream::Item;
+use table::Found;
+use table::Kind;
+use wire::Written;
+
+// ---- the remembered point
+
+fn kept_in(point: &[u16; 2]) -> Remembered
+    ensures { λ r. ⌜ r ≡ keptIn (now (point .entry)) ⌝ }
+{
+    let x = point[0];
+    let y = point[1];
+    let last = Point { x: x, y: y };
+    Remembered { point: last }
+}
+
+fn two_of(kept: Remembered) -> [u16; 2]
+    ensures { λ r. ⌜ r ≡ twoOf kept ⌝ }
+{
+    let point = kept.point;
+    [point.x, point.y]
+}
+
+// ---- the next item
+
+fn item_number(item: Item) -> u8
+    ensures { λ r. ⌜ r ≡ itemNumber (itemOf item) ⌝ }
+{
+    match item {
+        Item::Nothing => 0,
+        Item::Text(_, _) => 0,
+        Item::Done(_, _, _, _) => 0,
+        Item::Refused(e, _, _, _) => refusals::number(e),
+        Item::NotRead(e, _) => refusals::number(e),
+    }
+}
+
+fn item_kept(kept: Remembered, item: Item) -> Remembered
+    ensures { λ r. ⌜ r ≡ itemKept kept (itemOf item) ⌝ }
+{
+    match item {
+        Item::Nothing => kept,
+        Item::Text(_, _) => kept,
+        Item::Done(_, _, _, after) => after,
+        Item::Refused(_, _, _, after) => after,
+        Item::NotRead(_, _) => kept,
+    }
+}
+
+// The number of the kind of parameters that these letters have.
+fn kind_number(first: u8, second: u8) -> u8
+    ensures { λ r. ⌜ r ≡ foundNumber (kindOf first second) ⌝ }
+{
+    match table::kind_of(first, second) {
+        Found::Is(kind) => commands::kind_number(kind),
+        Found::NoKind => 0,
+    }
+}
+
+fn item_fields(item: Item) -> [usize; 7]
+    ensures { λ r. ⌜ r ≡ itemFields (itemOf item) ⌝ }
+{
+    match item {
+        Item::Nothing => [0, 0, 0, 0, 0, 0, 0],
+        Item::Text(b, next) => [1, next, 0, b as usize, 0, 0, 0],
+        Item::Done(command, count, next, _) => {
+            let first = command.first;
+            let second = command.second;
+            let kind = kind_number(first, second);
+            [
+                2,
+                next,
+                0,
+                first as usize,
+                second as usize,
+                kind as usize,
+                count,
+            ]
+        }
+        Item::Refused(_, place, next, _) => [3, next, place, 0, 0, 0, 0],
+        Item::NotRead(_, place) => [4, 0, place, 0, 0, 0, 0],
+    }
+}
+
+fn value_of(coordinate: u16) -> i32
+    ensures { λ r. ⌜ r ≡ pos coordinate ⌝ }
+{
+    coordinate as i32
+}
+
+fn four_of(parameters: Parameters) -> [i32; 4]
+    ensures { λ r. ⌜ r ≡ fourOf (valuesOf parameters) ⌝ }
+{
+    match parameters {
+        Parameters::Single(a) => [a, 0, 0, 0],
+        Parameters::Double(a, b) => [a, b, 0, 0],
+        Parameters::Triple(a, b, d) => [a, b, d, 0],
+        Parameters::OnePoint(p) => [value_of(p.x), value_of(p.y), 0, 0],
+        Parameters::Corners(p, q) => [value_of(p.x), value_of(p.y), value_of(q.x), value_of(q.y)],
+        Parameters::Scale(r) => [r.mantissa, r.exponent, 0, 0],
+        Parameters::Letters(a, b) => [a, b, 0, 0],
+        Parameters::Text => [0, 0, 0, 0],
+        Parameters::Array => [0, 0, 0, 0],
+        Parameters::NumberedText(a) => [a, 0, 0, 0],
+        Parameters::NumberedArray(a) => [a, 0, 0, 0],
+    }
+}
+
+fn item_values(item: Item) -> [i32; 4]
+    ensures { λ r. ⌜ r ≡ itemValues (itemOf item) ⌝ }
+{
+    match item {
+        Item::Nothing => [0, 0, 0, 0],
+        Item::Text(_, _) => [0, 0, 0, 0],
+        Item::Done(command, _, _, _) => {
+            let parameters = command.parameters;
+            four_of(parameters)
+        }
+        Item::Refused(_, _, _, _) => [0, 0, 0, 0],
+        Item::NotRead(_, _) => [0, 0, 0, 0],
+    }
+}
+
+#[no_mangle]
+pub extern "C" fn ardh_next_item(
+    bytes: &[u8],
+    start: usize,
+    point: &mut [u16; 2],
+    list: &mut [i32],
+    item: &mut [usize; 7],
+    values: &mut [i32; 4],
+) -> u8
+    ensures { λ r. ⌜ r ≡ itemNumber (toldItem (itemAt (keptIn (now (point .entry))) (now (bytes .entry)) start (length (now (list .entry))))) ⌝ }
+    ensures { λ _. ⌜ now (item .exit) ≡ itemFields (toldItem (itemAt (keptIn (now (point .entry))) (now (bytes .entry)) start (length (now (list .entry))))) ⌝ }
+    ensures { λ _. ⌜ now (values .exit) ≡ itemValues (toldItem (itemAt (keptIn (now (point .entry))) (now (bytes .entry)) start (length (now (list .entry))))) ⌝ }
+    ensures { λ _. ⌜ now (point .exit) ≡ twoOf (itemKept (keptIn (now (point .entry))) (toldItem (itemAt (keptIn (now (point .entry))) (now (bytes .entry)) start (length (now (list .entry)))))) ⌝ }
+    ensures { λ _. ⌜ now (list .exit) ≡ afterItem (itemAt (keptIn (now (point .entry))) (now (bytes .entry)) start (length (now (list .entry)))) (now (list .entry)) ⌝ }
+{
+    let kept = kept_in(point);
+    let read = stream::read_item(kept, bytes, start, list);
+    let after = item_kept(kept, read);
+    *item = item_fields(read);
+    *values = item_values(read);
+    *point = two_of(after);
+    item_number(read)
+}
+
+// ---- writing a command
+
+fn of_kind(kind: Kind, v: &[i32; 4]) -> Parameters
+    ensures { λ r. ⌜ r ≡ ofKind kind (now (v .entry)) ⌝ }
+{
+    let a = v[0];
+    let b = v[1];
+    let c = v[2];
+    let d = v[3];
+    match kind {
+        Kind::AnInteger => Parameters::Single(a),
+        Kind::TwoIntegers => Parameters::Double(a, b),
+        Kind::ThreeIntegers => Parameters::Triple(a, b, c),
+        Kind::APoint => Parameters::OnePoint(coordinates::point_of(a, b)),
+        Kind::TwoPoints => Parameters::Corners(
+            coordinates::point_of(a, b),
+            coordinates::point_of(c, d),
+        ),
+        Kind::AReal => {
+            let real = Real {
+                mantissa: a,
+                exponent: b,
+            };
+            Parameters::Scale(real)
+        }
+        Kind::AString => Parameters::Text,
+        Kind::AnArray => Parameters::Array,
+        Kind::IntegerThenArray => Parameters::NumberedArray(a),
+        Kind::IntegerThenString => Parameters::NumberedText(a),
+        Kind::TwoCharacters => Parameters::Letters(a, b),
+    }
+}
+
+fn command_given(first: u8, second: u8, v: &[i32; 4]) -> Command
+    ensures { λ r. ⌜ r ≡ commandGiven first second (now (v .entry)) ⌝ }
+{
+    let parameters = match table::kind_of(first, second) {
+        Found::Is(kind) => of_kind(kind, v),
+        Found::NoKind => Parameters::Text,
+    };
+    Command {
+        first: first,
+        second: second,
+        parameters: parameters,
+    }
+}
+
+#[no_mangle]
+pub extern "C" fn ardh_write_command(
+    first: u8,
+    second: u8,
+    values: &[i32; 4],
+    list: &[i32],
+    point: &mut [u16; 2],
+    out: &mut [u8],
+    written: &mut usize,
+) -> u8
+    ensures { λ r. ⌜ r ≡ number (writeCommand (keptIn (now (point .entry))) (commandGiven first second (now (values .entry))) (now (list .entry)) (length (now (out .entry)))) ⌝ }
+    ensures { λ _. ⌜ now (written .exit) ≡ valueOr 0 (λ (n : ℕ). n) (writeCommand (keptIn (now (point .entry))) (commandGiven first second (now (values .entry))) (now (list .entry)) (length (now (out .entry)))) ⌝ }
+    ensures { λ _. ⌜ now (point .exit) ≡ twoOf (keptAfter (keptIn (now (point .entry))) (commandGiven first second (now (values .entry))) (writeCommand (keptIn (now (point .entry))) (commandGiven first second (now (values .entry))) (now (list .entry)) (length (now (out .entry))))) ⌝ }
+    ensures { λ _. ⌜ now (out .exit) ≡ afterWrite (writeCommand (keptIn (now (point .entry))) (commandGiven first second (now (values .entry))) (now (list .entry)) (length (now (out .entry)))) (spellCommand (keptIn (now (point .entry))) (commandGiven first second (now (values .entry))) (now (list .entry))) (now (out .entry)) 0 ⌝ }
+{
+    let kept = kept_in(point);
+    let command = command_given(first, second, values);
+    let parameters = command.parameters;
+    match commands::write_command(kept, command, list, out) {
+        Written::Next(n) => {
+            let after = commands::remembered_after(kept, parameters);
+            *point = two_of(after);
+            *written = n;
+            0
+        }
+        Written::NotWritten(e) => {
+            *point = two_of(kept);
+            *written = 0;
+            refusals::number(e)
+        }
+    }
+}
