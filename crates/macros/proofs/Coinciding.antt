@@ -9,7 +9,9 @@ use Rattle.macros.specs.declared.Defining.{Defining}
 use Rattle.macros.specs.declared.Defining.the-variants.{Defined, NotDefined}
 use Rattle.macros.specs.declared.Finding.{Finding}
 use Rattle.macros.specs.declared.Finding.the-variants.{Found, NotFound}
-use Rattle.macros.specs.Store.{definingOf, findingOf}
+use Rattle.macros.specs.declared.Place.{Place}
+use Rattle.macros.specs.declared.Place.the-variants.{InVolatile, InSaved, Nowhere}
+use Rattle.macros.specs.Store.{definingOf, findingOf, Placed, placeOf}
 
 defining-back : ℕ → Defining
 defining-back k = pick (eqb k 0) Defined (NotDefined (named k))
@@ -32,3 +34,15 @@ finding-same (NotFound e) = rw (not-nought e) (ap NotFound (named-back e))
 
 pub findings-coincide : {x y : Finding} {d : ℕ} → findingOf x ≡ d → findingOf y ≡ d → x ≡ y
 findings-coincide = coincide findingOf finding-back finding-same
+
+place-back : Placed → Place
+place-back p = pick (eqb (p .number) 0) (pick (eqb (p .store) 1) (InVolatile (p .offset) (p .length)) (InSaved (p .offset) (p .length))) (Nowhere (named (p .number)))
+
+place-same : (r : Place) → place-back (placeOf r) ≡ r
+unfolding placeOf place-back
+place-same (InVolatile offset length) = refl
+place-same (InSaved offset length) = refl
+place-same (Nowhere e) = rw (not-nought e) (ap Nowhere (named-back e))
+
+pub places-coincide : {x y : Place} {d : Placed} → placeOf x ≡ d → placeOf y ≡ d → x ≡ y
+places-coincide = coincide placeOf place-back place-same

@@ -1,25 +1,31 @@
 -- The functions that read a store, by what their parts gave.
-use Prim.Native.Nat.{ℕ, zero, suc, _+_, _-_, _*_, _/_, _%_, _≤_, _<_}
-use mathlib.Core.Path.{_≡_, refl, sym, _∙_, ap}
+use Prim.Native.Nat.{ℕ, _+_, _-_, _*_, _/_, _%_, _≤_, _<_}
+use mathlib.Core.Path.{_≡_, refl, sym, _∙_, ap, subst}
 use mathlib.Core.Bool.{Bool, true, false, _&&_}
 use mathlib.Core.List.{List, [], _∷_}
 use native.Mathlib.Nat.{add-zero}
 use native.Mathlib.Omega.{arith}
-use borrow.Author.Tests.{le-leb, lt-leb, le-ltb, lt-ltb, eq-eqb, ne-eqb}
+use borrow.Author.Tests.{le-leb, lt-leb, le-ltb, lt-ltb, ltb-true, ltb-false}
 use borrow.Author.Needs.{fits-under}
 use mir.Syntax.{w64}
 use mir.Val.{Fits}
+use lib.Arith.{lt-of-le-ne}
+use lib.Dec.{ltb}
 use lib.ListN.{length, getD, take, drop, length-drop}
 use lib.Seq.{getD-drop, drop-drop, take-all}
-use Rattle.refusals.specs.Answers.{every}
+use Rattle.refusals.specs.Answers.{every, pick}
+use Rattle.refusals.proofs.Cases.{by-pick}
 use Rattle.refusals.proofs.Many.{Checking, checking-none, checking-end, checking-more, checking-no}
 use Rattle.macros.specs.declared.Header.{Header}
 use Rattle.macros.specs.declared.Front.{Front}
 use Rattle.macros.specs.declared.Front.the-variants.{Here, NoEntry}
-use Rattle.macros.specs.Store.{Entry, Layout, threeIn, threeBytes, sizeOf, atMost, areBody, bodyIn, isEntry, entriesFrom, entries, keep, below, bodyOf, wellFormed}
-use Rattle.macros.specs.Fronts.{HeaderIs, EntryIs, FrontIs}
+use Rattle.macros.specs.declared.Gap.{Gap}
+use Rattle.macros.specs.declared.Survey.{Survey}
+use Rattle.macros.specs.declared.Survey.the-variants.{Formed, Malformed}
+use Rattle.macros.specs.Store.{Entry, Layout, threeIn, threeBytes, sizeOf, atMost, areBody, bodyIn, isEntry, entries, below, wellFormed}
+use Rattle.macros.specs.Fronts.{Bytes, HeaderIs, EntryIs, FrontIs, GapIs, FormedIs, SurveyIs, gapBehind}
 use Rattle.macros.proofs.Layouts.{Lawful, three-size, three-longest, three-lawful}
-use Rattle.macros.proofs.Reading.{Stands, stands, body-long, entryIn, restFrom, rest-all, rest-none, rest-one, size-cons, size-nil}
+use Rattle.macros.proofs.Reading.{Stands, stands, body-long, entryIn, restFrom, rest-all, rest-none, rest-one, size-cons, size-nil, keep-yes, keep-no, keep-nil}
 
 -- ---- no byte above a bound
 
@@ -154,121 +160,159 @@ module _ (L : Layout) (least : ℕ) (s : List ℕ) (at : ℕ) {r : Front} (is : 
 
 pub ruleset passings = (closer, inside-of, next-of, from-of)
 
--- ---- where the entries below a number end
+-- ---- where a macro stands among the entries passed
 
-keep-yes : (p : ℕ → Bool) (e : Entry) (es : List Entry) → p (e .number) ≡ true → keep p (e ∷ es) ≡ e ∷ keep p es
-unfolding keep
-keep-yes p e es h = simp h
+module _ (g : Gap) (number n to : ℕ) where
+  pub gap-low : n < number → record { at = to; old = to; end = to } ≡ gapBehind g number n to
+  unfolding gapBehind
+  gap-low h = rw (lt-ltb n number h, lt-ltb n (number + 1) (omega (arith, h)))
 
-keep-no : (p : ℕ → Bool) (e : Entry) (es : List Entry) → p (e .number) ≡ false → keep p (e ∷ es) ≡ keep p es
-unfolding keep
-keep-no p e es h = simp h
+  pub gap-this : n ≡ number → record { at = g .at; old = to; end = to } ≡ gapBehind g number n to
+  unfolding gapBehind
+  gap-this h = rw (le-ltb n number (omega (arith, h)), lt-ltb n (number + 1) (omega (arith, h)))
 
-keep-nil : (p : ℕ → Bool) → keep p [] ≡ []
-unfolding keep
-keep-nil p = refl
+  pub gap-high : number ≤ n → (n ≡ number → ⊥) → record { at = g .at; old = g .old; end = to } ≡ gapBehind g number n to
+  unfolding gapBehind
+  gap-high h d = let l : number < n = lt-of-le-ne h (λ q. d (sym q)) in rw (le-ltb n number h, le-ltb n (number + 1) (omega (arith, l)))
 
--- entries from a number on have none below it
-none-low : (L : Layout) (n k least : ℕ) (d : List ℕ) → n ≤ least → below n (entriesFrom L k least d) ≡ []
-unfolding entriesFrom keep
-none-low L n zero least d h = refl
-none-low L n (suc k) least d h = go (isEntry L least d) refl (λ m d′ g. none-low L n k m d′ g)
-  where
-    go : (t : Bool) → isEntry L least d ≡ t → ((m : ℕ) (d′ : List ℕ) → n ≤ m → below n (entriesFrom L k m d′) ≡ []) → below n (entriesFrom L (suc k) least d) ≡ []
-    go true q again =
-        let y = stands L least d q in
-        simp (q, le-ltb (L .numberIn d) n (omega (arith, y .rising))) (again (L .numberIn d + 1) (drop (L .size + L .lengthIn d) d) (omega (arith, y .rising)))
-    go false q again = simp q
+pub ruleset gaps = (gap-low, gap-this, gap-high)
 
-pub record Locating (L : Layout) (s : List ℕ) (number at least : ℕ) : Type 0 where
-  pub inside : at ≤ length s
-  pub left : at + sizeOf L (below number (restFrom L s at least)) ≡ sizeOf L (below number (entries L s))
+-- the bytes of the entries below a number are those passed, and those of what is left; all passed are below it, as long as the next may be
+pub record Passing (L : Layout) (s : List ℕ) (number least at end : ℕ) : Type 0 where
+  pub left : at + sizeOf L (below number (restFrom L s end least)) ≡ sizeOf L (below number (entries L s))
+  pub here : least ≤ number → at ≡ end
 
-pub locating : (L : Layout) (s : List ℕ) (number : ℕ) → Locating L s number 0 0
-locating L s number =
-    record { inside = omega arith; left = rw (rest-all L s) (omega arith) }
+pub record Surveying (L : Layout) (s : List ℕ) (number : ℕ) (g : Gap) (least : ℕ) : Type 0 where
+  pub inside : g .end ≤ length s
+  pub low : Passing L s number least (g .at) (g .end)
+  pub upto : Passing L s (number + 1) least (g .old) (g .end)
+  pub all : g .end + sizeOf L (restFrom L s (g .end) least) ≡ sizeOf L (entries L s)
+  pub forth : g .at ≤ g .old
+  pub further : g .old ≤ g .end
 
-module _ (L : Layout) (lawful : Lawful L) (s : List ℕ) (number at least : ℕ) (inv : Locating L s number at least) {r : Front} (is : FrontIs L least s at r) where
-  pub located-end : r ≡ NoEntry → at ≡ sizeOf L (below number (entries L s))
-  located-end g =
-      let e : sizeOf L (below number (restFrom L s at least)) ≡ 0
-      = ap (λ (es : List Entry). sizeOf L (below number es)) (rest-none L s at least (none-of L least s at is g)) ∙ ap (sizeOf L) (keep-nil _) ∙ size-nil L in
-      omega (arith, e, inv .left)
+passing : (L : Layout) (s : List ℕ) (number : ℕ) → Passing L s number 0 0 0
+passing L s number = record { left = rw (rest-all L s) (omega arith); here = λ h. refl }
 
-  module _ {n from to : ℕ} (g : r ≡ Here n from to) where
-    here : EntryIs L least s at n from to
-    here = entry-of L least s at is g
+pub surveying : (L : Layout) (s : List ℕ) (number : ℕ) → Surveying L s number (record { at = 0; old = 0; end = 0 }) 0
+surveying L s number = record {
+  inside = omega arith;
+  low = passing L s number;
+  upto = passing L s (number + 1);
+  all = rw (rest-all L s) (omega arith);
+  forth = omega arith;
+  further = omega arith;
+}
 
-    first : Entry
-    first = entryIn L (drop at s)
+-- none is left
+module _ (L : Layout) (s : List ℕ) (at least : ℕ) (none : restFrom L s at least ≡ []) where
+  passed-all : (number x : ℕ) → Passing L s number least x at → x ≡ sizeOf L (below number (entries L s))
+  passed-all number x p =
+      let e : sizeOf L (below number (restFrom L s at least)) ≡ 0 = ap (λ (es : List Entry). sizeOf L (below number es)) none ∙ ap (sizeOf L) (keep-nil _) ∙ size-nil L in
+      omega (arith, e, p .left)
 
-    pub located-here : number ≤ n → at ≡ sizeOf L (below number (entries L s))
-    unfolding first restFrom
-    located-here h =
-        let e : sizeOf L (below number (restFrom L s at least)) ≡ 0
-        = ap (λ (es : List Entry). sizeOf L (below number es)) (rest-of L least s at is g)
-        ∙ ap (sizeOf L) (keep-no _ first (restFrom L s to (n + 1)) (le-ltb (first .number) number (omega (arith, here .here))) ∙ none-low L number (length s) (n + 1) (drop to s) (omega arith))
-        ∙ size-nil L in
-        omega (arith, e, inv .left)
+-- one more
+module _ (L : Layout) (lawful : Lawful L) (s : List ℕ) (at least : ℕ) {r : Front} (is : FrontIs L least s at r) {n from to : ℕ} (g : r ≡ Here n from to) where
+  here : EntryIs L least s at n from to
+  here = entry-of L least s at is g
 
-    pub located-on : n < number → Locating L s number to (n + 1)
-    unfolding first
-    located-on h =
-        let e : sizeOf L (below number (restFrom L s at least)) ≡ L .size + length (first .body) + sizeOf L (below number (restFrom L s to (n + 1)))
-        = ap (λ (es : List Entry). sizeOf L (below number es)) (rest-of L least s at is g)
-        ∙ ap (sizeOf L) (keep-yes _ first (restFrom L s to (n + 1)) (lt-ltb (first .number) number (omega (arith, here .here))))
-        ∙ size-cons L lawful first (below number (restFrom L s to (n + 1))) in
-        let l : length (first .body) ≡ to - from = long-of L least s at is g in
-        record { inside = here .inside; left = omega (arith, e, inv .left, l, here .begins, here .ends) }
+  abbrev first : Entry
+  first = entryIn L (drop at s)
 
-pub ruleset locatings = (three-lawful, locating, located-end, located-here, located-on)
+  abbrev rest : List Entry
+  rest = restFrom L s to (n + 1)
 
--- ---- the body of a macro
+  behind-it : to ≡ at + L .size + length (first .body)
+  behind-it = omega (arith, long-of L least s at is g, here .begins, here .ends)
 
-pub record Seeking (L : Layout) (s : List ℕ) (number at least : ℕ) : Type 0 where
-  pub inside : at ≤ length s
-  pub left : bodyOf number (restFrom L s at least) ≡ bodyOf number (entries L s)
+  passed-one : (number x : ℕ) → Passing L s number least x at → Passing L s number (n + 1) (pick (ltb n number) to x) to
+  passed-one number x p =
+      by-pick (λ (y : ℕ). Passing L s number (n + 1) y to) (ltb n number) to x
+      (λ t.
+      let e : sizeOf L (below number (restFrom L s at least)) ≡ L .size + length (first .body) + sizeOf L (below number rest)
+      = ap (λ (es : List Entry). sizeOf L (below number es)) (rest-of L least s at is g)
+      ∙ ap (sizeOf L) (keep-yes _ first rest (ap (λ (m : ℕ). ltb m number) (sym (here .here)) ∙ t))
+      ∙ size-cons L lawful first (below number rest) in
+      let y = stands L least (drop at s) (here .is) in
+      let h : x ≡ at = p .here (omega (arith, y .rising, here .here, ltb-true n number t)) in
+      record { left = omega (arith, e, p .left, behind-it, h); here = λ q. refl })
+      (λ t.
+      let e : sizeOf L (below number (restFrom L s at least)) ≡ sizeOf L (below number rest)
+      = ap (λ (es : List Entry). sizeOf L (below number es)) (rest-of L least s at is g)
+      ∙ ap (sizeOf L) (keep-no _ first rest (ap (λ (m : ℕ). ltb m number) (sym (here .here)) ∙ t)) in
+      record { left = omega (arith, e, p .left); here = λ q. absurd (omega (arith, q, ltb-false n number t)) })
 
-pub seeking : (L : Layout) (s : List ℕ) (number : ℕ) → Seeking L s number 0 0
-seeking L s number = record { inside = omega arith; left = ap (bodyOf number) (rest-all L s) }
+  passed-size : sizeOf L (restFrom L s at least) ≡ L .size + length (first .body) + sizeOf L rest
+  passed-size = ap (sizeOf L) (rest-of L least s at is g) ∙ size-cons L lawful first rest
 
-this-one : (n : ℕ) (e : Entry) (es : List Entry) → e .number ≡ n → bodyOf n (e ∷ es) ≡ e .body
-unfolding bodyOf
-this-one n e es h = simp (eq-eqb (e .number) n h)
+module _ (L : Layout) (lawful : Lawful L) (s : List ℕ) (number : ℕ) (g : Gap) (least : ℕ) (inv : Surveying L s number g least) {r : Front} (is : FrontIs L least s (g .end) r) where
+  pub surveyed-end : r ≡ NoEntry → Bytes s → GapIs L s number g
+  surveyed-end e bytes =
+      let none = rest-none L s (g .end) least (none-of L least s (g .end) is e) in
+      record {
+        at = passed-all L s (g .end) least none number (g .at) (inv .low);
+        old = passed-all L s (g .end) least none (number + 1) (g .old) (inv .upto);
+        end = omega (arith, inv .all, ap (sizeOf L) none, size-nil L);
+        forth = inv .forth;
+        further = inv .further;
+        inside = inv .inside;
+        bytes = bytes;
+      }
 
-another : (n : ℕ) (e : Entry) (es : List Entry) → (e .number ≡ n → ⊥) → bodyOf n (e ∷ es) ≡ bodyOf n es
-unfolding bodyOf
-another n e es h = simp (ne-eqb (e .number) n h)
+  module _ {n from to : ℕ} (e : r ≡ Here n from to) where
+    forth-on : (a b : Bool) → ltb n number ≡ a → ltb n (number + 1) ≡ b → g .end ≤ to → pick a to (g .at) ≤ pick b to (g .old)
+    forth-on true true ea eb h = omega arith
+    forth-on true false ea eb h = absurd (omega (arith, ltb-true n number ea, ltb-false n (number + 1) eb))
+    forth-on false true ea eb h = omega (arith, inv .forth, inv .further, h)
+    forth-on false false ea eb h = inv .forth
 
-module _ (L : Layout) (s : List ℕ) (number at least : ℕ) (inv : Seeking L s number at least) {r : Front} (is : FrontIs L least s at r) where
-  pub sought-end : r ≡ NoEntry → [] ≡ bodyOf number (entries L s)
-  unfolding bodyOf
-  sought-end g = sym (ap (bodyOf number) (rest-none L s at least (none-of L least s at is g))) ∙ inv .left
+    pub surveyed-less : {g′ : Gap} → g′ ≡ gapBehind g number n to → length s - g′ .end < length s - g .end
+    unfolding gapBehind
+    surveyed-less q = rw q (closer L least s (g .end) is e)
 
-  module _ {n from to : ℕ} (g : r ≡ Here n from to) where
-    found-entry : EntryIs L least s at n from to
-    found-entry = entry-of L least s at is g
+    pub surveyed-on : {g′ : Gap} → g′ ≡ gapBehind g number n to → Surveying L s number g′ (n + 1)
+    unfolding gapBehind
+    surveyed-on q =
+        let h : g .end ≤ to = omega (arith, behind-it L lawful s (g .end) least is e) in
+        subst (λ (x : Gap). Surveying L s number x (n + 1)) (sym q)
+        (record {
+          inside = inside-of L least s (g .end) is e;
+          low = passed-one L lawful s (g .end) least is e number (g .at) (inv .low);
+          upto = passed-one L lawful s (g .end) least is e (number + 1) (g .old) (inv .upto);
+          all = omega (arith, inv .all, passed-size L lawful s (g .end) least is e, behind-it L lawful s (g .end) least is e);
+          forth = forth-on (ltb n number) (ltb n (number + 1)) refl refl h;
+          further = by-pick (λ (y : ℕ). y ≤ to) (ltb n (number + 1)) to (g .old) (λ t. omega arith) (λ t. omega (arith, inv .further, h));
+        })
 
-    pub sought-here : n ≡ number → take (to - from) (drop from s) ≡ bodyOf number (entries L s)
-    sought-here e =
-        body-of L least s at is g
-        ∙ sym (this-one number (entryIn L (drop at s)) (restFrom L s to (n + 1)) (sym (found-entry .here) ∙ e))
-        ∙ sym (ap (bodyOf number) (rest-of L least s at is g))
-        ∙ inv .left
-
-    pub sought-on : (n ≡ number → ⊥) → Seeking L s number to (n + 1)
-    sought-on h = record {
-      inside = found-entry .inside;
-      left =
-          sym (another number (entryIn L (drop at s)) (restFrom L s to (n + 1)) (λ q. h (found-entry .here ∙ q)))
-          ∙ sym (ap (bodyOf number) (rest-of L least s at is g))
-          ∙ inv .left;
-    }
-
-pub ruleset seekings = (seeking, sought-end, sought-here, sought-on)
+pub ruleset surveyings = (three-lawful, surveying, surveyed-less, surveyed-on)
 
 -- ---- a well-formed store
 
-pub formed-so : (L : Layout) (s : List ℕ) {end : ℕ} {b : Bool} → end ≡ sizeOf L (entries L s) → b ≡ every (atMost 0) (take (length s - end) (drop end s)) → b ≡ wellFormed L s
-unfolding wellFormed
-formed-so L s {end} e j = j ∙ ap (every (atMost 0)) (take-all (length s - end) (drop end s) (omega (arith, length-drop end s))) ∙ rw e
+module _ (L : Layout) (s : List ℕ) (number : ℕ) {g : Gap} (gap : GapIs L s number g) {b : Bool} (eb : b ≡ every (atMost 0) (take (length s - g .end) (drop (g .end) s))) where
+  zeros-behind : b ≡ wellFormed L s
+  unfolding wellFormed
+  zeros-behind = eb ∙ ap (every (atMost 0)) (take-all (length s - g .end) (drop (g .end) s) (omega (arith, length-drop (g .end) s))) ∙ ap (λ (k : ℕ). every (atMost 0) (drop k s)) (gap .end)
+
+  pub is-formed : b ≡ true → SurveyIs L s number (Formed g)
+  unfolding SurveyIs
+  is-formed t = record { formed = sym zeros-behind ∙ t; gap = gap }
+
+  pub is-malformed : b ≡ false → SurveyIs L s number Malformed
+  unfolding SurveyIs
+  is-malformed t = sym zeros-behind ∙ t
+
+pub ruleset surveys = (is-formed, is-malformed)
+
+module _ (L : Layout) (s : List ℕ) (number : ℕ) {r : Survey} (is : SurveyIs L s number r) where
+  pub formed-of : {g : Gap} → r ≡ Formed g → FormedIs L s number g
+  unfolding SurveyIs
+  formed-of e = rw e at is
+
+  pub malformed-of : r ≡ Malformed → wellFormed L s ≡ false
+  unfolding SurveyIs
+  malformed-of e = rw e at is
+
+  pub says-formed : {g : Gap} → r ≡ Formed g → true ≡ wellFormed L s
+  says-formed e = sym (formed-of e .formed)
+
+  pub says-malformed : r ≡ Malformed → false ≡ wellFormed L s
+  says-malformed e = sym (malformed-of e)

@@ -2,6 +2,7 @@ pub mod Layouts
 pub mod Reading
 pub mod Fronts
 pub mod Listing
+pub mod Locations
 pub mod Lookups
 pub mod Writing
 pub mod Placing

@@ -262,13 +262,6 @@ module _ (L : Layout) (n : ℕ) where
           let h : n ≤ e .number = ltb-false (e .number) n q in
           simp (q, le-leb n (e .number) h, none-below (e .number + 1) es (omega (arith, h)) (v .1), all-from (e .number + 1) es (omega (arith, h)) (v .1))
 
-  -- no number is above the greatest
-  pub all-below : 32768 ≤ n → (least : ℕ) (es : List Entry) → Valid L least es → below n es ≡ es
-  unfolding Valid keep
-  all-below h least [] v = refl
-  all-below h least (e ∷ es) v =
-      simp (lt-ltb (e .number) n (omega (arith, v .0 .small))) (ap (λ (l : List Entry). e ∷ l) (all-below h (e .number + 1) es (v .1)))
-
   all-above : (least : ℕ) (es : List Entry) → n < least → Valid L least es → above n es ≡ es
   unfolding Valid keep
   all-above least [] h v = refl

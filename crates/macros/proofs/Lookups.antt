@@ -1,117 +1,214 @@
--- Looking up, by what its parts gave.
-use Prim.Native.Nat.{ℕ, _≤_, _<_}
-use mathlib.Core.Path.{_≡_, refl, sym, _∙_, ap}
+-- Looking up, by what one pass over each store gave.
+use Prim.Native.Nat.{ℕ, _+_, _-_, _^_, _≤_, _<_}
+use mathlib.Core.Path.{_≡_, refl, sym, _∙_, ap, subst}
 use mathlib.Core.Bool.{Bool, true, false, not, _&&_}
-use mathlib.Core.List.{List, [], _∷_}
-use native.Mathlib.Nat.{not-suc-le-zero}
+use mathlib.Core.List.{List, []}
 use native.Mathlib.Omega.{arith}
-use borrow.Author.Tests.{not-true, not-false, le-leb, lt-leb, eqb-false}
-use lib.Dec.{leb, eqb}
-use lib.ListN.{length}
+use borrow.Author.Tests.{not-true, not-false, le-leb, eq-eqb, ne-eqb, leb-true}
+use lib.Arith.{lt-of-le-ne}
+use lib.Dec.{leb}
+use lib.ListN.{length, take, drop}
 use lib.IntN.{ℤ, natAbs}
-use mir.Syntax.{w32}
-use mir.Val.{SFits, toZ, ofZ}
+use mir.Syntax.{w32, w64}
+use mir.Val.{Fits, SFits, toZ, ofZ}
 use mir.Facts.{toZ-ofZ}
 use Rattle.refusals.specs.declared.Refusal.{Refusal}
 use Rattle.refusals.specs.declared.Refusal.the-variants.{NotValid, StoreMalformed, NoSuchMacro}
 use Rattle.refusals.specs.Refusals.{numberOf}
-use Rattle.refusals.specs.Answers.{pick, demand}
+use Rattle.refusals.specs.Answers.{demand}
 use Rattle.refusals.proofs.Numbers.{not-nought}
 use Rattle.ranges.specs.Ranges.{within}
-use Rattle.macros.specs.declared.Verdict.{Verdict}
-use Rattle.macros.specs.declared.Verdict.the-variants.{Allowed, Refused}
+use Rattle.macros.specs.declared.Gap.{Gap}
+use Rattle.macros.specs.declared.Survey.{Survey}
+use Rattle.macros.specs.declared.Survey.the-variants.{Formed, Malformed}
+use Rattle.macros.specs.declared.Place.{Place}
+use Rattle.macros.specs.declared.Place.the-variants.{InVolatile, InSaved, Nowhere}
 use Rattle.macros.specs.declared.Finding.the-variants.{Found, NotFound}
-use Rattle.macros.specs.Store.{Layout, entries, wellFormed, isNumber, bodyOf, orElse, bodyInEither, lookRefusal, findRefusal, lookedUp, findingOf}
-use Rattle.macros.specs.Fronts.{verdictOf}
+use Rattle.macros.specs.Store.{Layout, sizeOf, below, entries, wellFormed, isNumber, bodyOf, bodyInEither, lookRefusal, findRefusal, lookedUp, findingOf, Placed, placed, storeNamed, placeOf}
+use Rattle.macros.specs.Fronts.{GapIs, FormedIs, SurveyIs, roomFor}
+use Rattle.macros.proofs.Layouts.{Lawful, three-size, three-lawful}
+use Rattle.macros.proofs.Fronts.{formed-of, malformed-of}
+use Rattle.macros.proofs.Locations.{stand, either-first, either-second, placed-number, located-part, located-inside}
 
-module _ (L : Layout) (v s : List ℕ) (n : ℤ) {a : Bool} (ea : a ≡ wellFormed L v) where
-  pub first-malformed : not a ≡ true → verdictOf (Refused StoreMalformed) ≡ lookRefusal L v s n 0
-  unfolding verdictOf lookRefusal
-  first-malformed t = rw (sym ea ∙ not-true a t)
+-- ---- the body between where a macro's entry begins and where it ends
 
-  module _ (t : not a ≡ false) {b : Bool} (eb : b ≡ wellFormed L s) where
-    pub second-malformed : not b ≡ true → verdictOf (Refused StoreMalformed) ≡ lookRefusal L v s n 0
-    unfolding verdictOf lookRefusal
-    second-malformed u = rw (sym ea ∙ not-false a t, sym eb ∙ not-true b u)
+module _ (L : Layout) (lawful : Lawful L) (s : List ℕ) (k : ℕ) {g : Gap} (gap : GapIs L s k g) where
+  abbrev long : ℕ
+  long = length (bodyOf k (entries L s))
 
-    -- the number comes back from the callee's contract as the machine reads it
-    module _ (u : not b ≡ false) (f : SFits w32 n) {k : Bool} (ek : k ≡ within 0 32767 (toZ w32 (ofZ w32 n))) where
-      pub may-look : k ≡ true → verdictOf Allowed ≡ lookRefusal L v s n 0
-      unfolding verdictOf lookRefusal
-      may-look e = rw (sym ea ∙ not-false a t, sym eb ∙ not-false b u, sym (rw (toZ-ofZ f) at ek) ∙ e)
+  between : g .old ≡ g .at + roomFor L long
+  between = omega (arith, gap .at, gap .old, stand L lawful k s .room)
 
-      pub outside : k ≡ false → verdictOf (Refused NotValid) ≡ lookRefusal L v s n 0
-      unfolding verdictOf lookRefusal
-      outside e = rw (sym ea ∙ not-false a t, sym eb ∙ not-false b u, sym (rw (toZ-ofZ f) at ek) ∙ e)
+  some-room : (c : ℕ) → (c ≡ 0 → ⊥) → roomFor L c ≡ L .size + c
+  unfolding roomFor
+  some-room c h = rw (ne-eqb c 0 h)
 
-pub ruleset looks = (first-malformed, second-malformed, may-look, outside)
+  no-room : (c : ℕ) → c ≡ 0 → roomFor L c ≡ 0
+  unfolding roomFor
+  no-room c h = rw (eq-eqb c 0 h)
 
--- ---- in either store
-
-module _ (L : Layout) (v s : List ℕ) (n : ℕ) {b : List ℕ} (eb : b ≡ bodyOf n (entries L v)) where
-  pub in-first : 0 < length b → b ≡ bodyInEither L v s n
-  unfolding bodyInEither
-  in-first h = go b h ∙ ap (λ (x : List ℕ). orElse x (bodyOf n (entries L s))) eb
+  body-between : g .at < g .old → (1 ≤ long) × (g .old ≡ g .at + L .size + long)
+  body-between h =
+      let some : long ≡ 0 → ⊥ = λ e. omega (arith, h, between, no-room long e) in
+      (one-or-more long some, omega (arith, between, some-room long some))
     where
-      go : (x : List ℕ) → 0 < length x → x ≡ orElse x (bodyOf n (entries L s))
-      go [] l = absurd (not-suc-le-zero l)
-      go (y ∷ x) l = refl
+      one-or-more : (c : ℕ) → (c ≡ 0 → ⊥) → 1 ≤ c
+      one-or-more c d = lt-of-le-ne (omega arith) (λ e. d (sym e))
 
-  pub in-second : length b ≤ 0 → {c : List ℕ} → c ≡ bodyOf n (entries L s) → c ≡ bodyInEither L v s n
-  unfolding bodyInEither
-  in-second h j = j ∙ go b h ∙ ap (λ (x : List ℕ). orElse x (bodyOf n (entries L s))) eb
+  none-between : g .old ≤ g .at → leb 1 long ≡ false
+  none-between h = go (leb 1 long) refl
     where
-      go : (x : List ℕ) → length x ≤ 0 → bodyOf n (entries L s) ≡ orElse x (bodyOf n (entries L s))
-      go [] l = refl
-      go (y ∷ x) l = absurd (not-suc-le-zero l)
+      go : (t : Bool) → leb 1 long ≡ t → leb 1 long ≡ false
+      go true e =
+          let l : 1 ≤ long = leb-true 1 long e in
+          absurd (omega (arith, h, between, some-room long (λ z. omega (arith, l, z))))
+      go false e = e
 
--- ---- the two calls
+-- ---- locating
 
--- what the first two tests refused stays refused; where they do not, the answer is that of what comes next
-pub refused-before : (a b : Bool) (k next : ℕ) → eqb k 0 ≡ false → demand a 12 (demand b 8 0) ≡ k → demand a 12 (demand b 8 next) ≡ k
-refused-before true true k next z q = absurd (eqb-false k 0 z (sym q))
-refused-before true false k next z q = q
-refused-before false b k next z q = q
+module _ (L : Layout) (v s : List ℕ) (n : ℤ) where
+  nowhere : (e : Refusal) → findRefusal L v s n ≡ numberOf e → placeOf (Nowhere e) ≡ placed L v s n
+  unfolding placeOf placed
+  nowhere e q = rw (q, not-nought e)
 
-pub goes-on : (a b : Bool) (next : ℕ) → demand a 12 (demand b 8 0) ≡ 0 → demand a 12 (demand b 8 next) ≡ next
-goes-on true true next q = refl
-goes-on true false next q = absurd (omega (arith, q))
-goes-on false b next q = absurd (omega (arith, q))
+  malformed-either : wellFormed L v && wellFormed L s ≡ false → placeOf (Nowhere StoreMalformed) ≡ placed L v s n
+  unfolding findRefusal lookRefusal
+  malformed-either t = nowhere StoreMalformed (rw t)
 
-module _ (L : Layout) (v s : List ℕ) (n : ℤ) (f : SFits w32 n) (r : Verdict) (er : verdictOf r ≡ lookRefusal L v s (toZ w32 (ofZ w32 n)) 0) where
-  said : verdictOf r ≡ lookRefusal L v s n 0
-  said = rw (toZ-ofZ f) at er
+  module _ {k : ℕ} (ek : k ≡ natAbs (toZ w32 (ofZ w32 n))) (a : Survey) (ea : SurveyIs L v k a) where
+    pub first-malformed : a ≡ Malformed → placeOf (Nowhere StoreMalformed) ≡ placed L v s n
+    first-malformed e = malformed-either (rw (malformed-of L v k ea e))
 
-  pub not-looked : (e : Refusal) → r ≡ Refused e → findingOf (NotFound e) ≡ findRefusal L v s n
-  unfolding findingOf findRefusal verdictOf lookRefusal
-  not-looked e g = sym (refused-before (wellFormed L v && wellFormed L s) (isNumber n) (numberOf e) _ (not-nought e) (sym said ∙ rw g))
+    module _ (b : Survey) (eb : SurveyIs L s k b) {g : Gap} (eg : a ≡ Formed g) where
+      one : FormedIs L v k g
+      one = formed-of L v k ea eg
 
-  pub empty-part : (e : Refusal) → r ≡ Refused e → [] ≡ lookedUp L v s n
-  unfolding findingOf lookedUp
-  empty-part e g = rw (← not-looked e g, not-nought e)
+      pub second-malformed : b ≡ Malformed → placeOf (Nowhere StoreMalformed) ≡ placed L v s n
+      second-malformed e = malformed-either (rw (one .formed, malformed-of L s k eb e))
 
-  module _ (g : r ≡ Allowed) {k : ℕ} (ek : k ≡ natAbs (toZ w32 (ofZ w32 n))) {b : List ℕ} (eb : b ≡ bodyInEither L v s k) where
-    found-body : b ≡ bodyInEither L v s (natAbs n)
-    found-body = eb ∙ ap (bodyInEither L v s) (rw (toZ-ofZ f) at ek)
+      -- the number comes back from the callee's contract as the machine reads it
+      module _ {h : Gap} (eh : b ≡ Formed h) (f : SFits w32 n) {w : Bool} (ew : w ≡ within 0 32767 (toZ w32 (ofZ w32 n))) where
+        other : FormedIs L s k h
+        other = formed-of L s k eb eh
 
-    last : findRefusal L v s n ≡ demand (leb 1 (length b)) 14 0
-    unfolding findRefusal verdictOf lookRefusal
-    last = goes-on (wellFormed L v && wellFormed L s) (isNumber n) _ (sym said ∙ rw g) ∙ ap (λ (x : List ℕ). demand (leb 1 (length x)) 14 0) (sym found-body)
+        inside-is : {t : Bool} → w ≡ t → isNumber n ≡ t
+        inside-is e = sym (rw (toZ-ofZ f) at ew) ∙ e
 
-    pub is-found : 0 < length b → findingOf Found ≡ findRefusal L v s n
-    unfolding findingOf
-    is-found h = sym (last ∙ rw (le-leb 1 (length b) h))
+        pub outside : not w ≡ true → placeOf (Nowhere NotValid) ≡ placed L v s n
+        unfolding findRefusal lookRefusal
+        outside t = nowhere NotValid (rw (one .formed, other .formed, inside-is (not-true w t)))
 
-    pub absent : length b ≤ 0 → findingOf (NotFound NoSuchMacro) ≡ findRefusal L v s n
-    unfolding findingOf
-    absent h = sym (last ∙ rw (lt-leb 1 (length b) (omega (arith, h))))
+        module _ (t : not w ≡ false) (lawful : Lawful L) where
+          number-is : k ≡ natAbs n
+          number-is = rw (toZ-ofZ f) at ek
 
-    pub looked-up : b ≡ lookedUp L v s n
-    unfolding lookedUp
-    looked-up = go b last found-body
-      where
-        go : (x : List ℕ) → findRefusal L v s n ≡ demand (leb 1 (length x)) 14 0 → x ≡ bodyInEither L v s (natAbs n) → x ≡ pick (eqb (findRefusal L v s n) 0) (bodyInEither L v s (natAbs n)) []
-        go [] l j = rw l
-        go (y ∷ x) l j = rw (l, le-leb 1 (length (y ∷ x)) (omega arith)) j
+          last : findRefusal L v s n ≡ demand (leb 1 (length (bodyInEither L v s k))) 14 0
+          unfolding findRefusal lookRefusal
+          last = rw (one .formed, other .formed, inside-is (not-false w t), number-is)
 
-pub ruleset findings = (not-looked, empty-part, is-found, absent, looked-up)
+          module _ {size : ℕ} (es : size ≡ L .size) where
+            module _ (l : g .at < g .old) where
+              pub volatile-header : g .at + size ≤ g .old
+              volatile-header = omega (arith, es, body-between L lawful v k (one .gap) l .1)
+
+              pub volatile-counts : Fits w64 (g .old) → g .at + size < 2 ^ 64
+              volatile-counts c = omega (arith, c .fits, volatile-header)
+
+              pub in-volatile : placeOf (InVolatile (g .at + size) (g .old - (g .at + size))) ≡ placed L v s n
+              unfolding placeOf placed bodyInEither
+              in-volatile =
+                  let y = body-between L lawful v k (one .gap) l in
+                  let u : leb 1 (length (bodyOf k (entries L v))) ≡ true = le-leb 1 _ (y .0) in
+                  let z : findRefusal L v s n ≡ 0 = last ∙ rw (either-first (bodyOf k (entries L v)) (bodyOf k (entries L s)) u, u) in
+                  let o : g .at + size ≡ sizeOf L (below k (entries L v)) + L .size = omega (arith, es, one .gap .at) in
+                  let m : g .old - (g .at + size) ≡ length (bodyOf k (entries L v)) = omega (arith, es, y .1) in
+                  rw (z, ← number-is, u, m, o)
+
+            module _ (l : g .old ≤ g .at) where
+              none : leb 1 (length (bodyOf k (entries L v))) ≡ false
+              none = none-between L lawful v k (one .gap) l
+
+              module _ (m : h .at < h .old) where
+                pub saved-header : h .at + size ≤ h .old
+                saved-header = omega (arith, es, body-between L lawful s k (other .gap) m .1)
+
+                pub saved-counts : Fits w64 (h .old) → h .at + size < 2 ^ 64
+                saved-counts c = omega (arith, c .fits, saved-header)
+
+                pub in-saved : placeOf (InSaved (h .at + size) (h .old - (h .at + size))) ≡ placed L v s n
+                unfolding placeOf placed bodyInEither
+                in-saved =
+                    let y = body-between L lawful s k (other .gap) m in
+                    let u : leb 1 (length (bodyOf k (entries L s))) ≡ true = le-leb 1 _ (y .0) in
+                    let z : findRefusal L v s n ≡ 0 = last ∙ rw (either-second (bodyOf k (entries L v)) (bodyOf k (entries L s)) none, u) in
+                    let o : h .at + size ≡ sizeOf L (below k (entries L s)) + L .size = omega (arith, es, other .gap .at) in
+                    let c : h .old - (h .at + size) ≡ length (bodyOf k (entries L s)) = omega (arith, es, y .1) in
+                    rw (z, ← number-is, none, c, o)
+
+              pub in-neither : h .old ≤ h .at → placeOf (Nowhere NoSuchMacro) ≡ placed L v s n
+              unfolding bodyInEither
+              in-neither m =
+                  nowhere NoSuchMacro (last ∙ rw (either-second (bodyOf k (entries L v)) (bodyOf k (entries L s)) none, none-between L lawful s k (other .gap) m))
+
+pub ruleset locatings = (three-size, three-lawful, first-malformed, second-malformed, outside, volatile-header, volatile-counts, in-volatile, saved-header, saved-counts, in-saved, in-neither)
+
+-- ---- the part that is located, and whether there is one
+
+module _ (L : Layout) (v s : List ℕ) (n : ℤ) (f : SFits w32 n) (r : Place) (er : placeOf r ≡ placed L v s (toZ w32 (ofZ w32 n))) where
+  said : placed L v s n ≡ placeOf r
+  said = sym (rw (toZ-ofZ f) at er)
+
+  says : {q : Place} → r ≡ q → placed L v s n ≡ placeOf q
+  says e = said ∙ ap placeOf e
+
+  number-said : {q : Place} → r ≡ q → placeOf q .number ≡ findRefusal L v s n
+  number-said e = ap (λ (x : Placed). x .number) (sym (says e)) ∙ placed-number L v s n
+
+  part-said : Lawful L → {q : Place} → r ≡ q → take (placeOf q .length) (drop (placeOf q .offset) (storeNamed (placeOf q) v s)) ≡ lookedUp L v s n
+  part-said lawful e = subst (λ (x : Placed). take (x .length) (drop (x .offset) (storeNamed x v s)) ≡ lookedUp L v s n) (says e) (located-part L v s n lawful)
+
+  inside-said : Lawful L → {q : Place} → r ≡ q → placeOf q .offset + placeOf q .length ≤ length (storeNamed (placeOf q) v s)
+  inside-said lawful e = subst (λ (x : Placed). x .offset + x .length ≤ length (storeNamed x v s)) (says e) (located-inside L v s n lawful)
+
+  module _ {from long : ℕ} where
+    pub volatile-found : r ≡ InVolatile from long → findingOf Found ≡ findRefusal L v s n
+    unfolding findingOf placeOf
+    volatile-found e = number-said e
+
+    pub saved-found : r ≡ InSaved from long → findingOf Found ≡ findRefusal L v s n
+    unfolding findingOf placeOf
+    saved-found e = number-said e
+
+    module _ (lawful : Lawful L) where
+      pub volatile-inside : r ≡ InVolatile from long → from + long ≤ length v
+      unfolding placeOf
+      volatile-inside e = inside-said lawful e
+
+      pub saved-inside : r ≡ InSaved from long → from + long ≤ length s
+      unfolding placeOf
+      saved-inside e = inside-said lawful e
+
+      pub volatile-ends : r ≡ InVolatile from long → length v < 2 ^ 64 → from + long < 2 ^ 64
+      volatile-ends e h = omega (arith, volatile-inside e, h)
+
+      pub saved-ends : r ≡ InSaved from long → length s < 2 ^ 64 → from + long < 2 ^ 64
+      saved-ends e h = omega (arith, saved-inside e, h)
+
+      pub volatile-part : r ≡ InVolatile from long → take (from + long - from) (drop from v) ≡ lookedUp L v s n
+      unfolding placeOf
+      volatile-part e = let l : from + long - from ≡ long = omega arith in rw l (part-said lawful e)
+
+      pub saved-part : r ≡ InSaved from long → take (from + long - from) (drop from s) ≡ lookedUp L v s n
+      unfolding placeOf
+      saved-part e = let l : from + long - from ≡ long = omega arith in rw l (part-said lawful e)
+
+  module _ {e : Refusal} (g : r ≡ Nowhere e) where
+    pub not-found : findingOf (NotFound e) ≡ findRefusal L v s n
+    unfolding findingOf placeOf
+    not-found = number-said g
+
+    pub empty-part : Lawful L → [] ≡ lookedUp L v s n
+    unfolding placeOf
+    empty-part lawful = part-said lawful g
+
+pub ruleset findings = (three-lawful, volatile-found, saved-found, volatile-inside, saved-inside, volatile-ends, saved-ends, volatile-part, saved-part, not-found, empty-part)

@@ -5,8 +5,8 @@ use mathlib.Core.Bool.{Bool, true, false, not, _&&_}
 use mathlib.Core.List.{List, [], _∷_, _++_, map, append-nil, append-assoc}
 use native.Mathlib.Omega.{arith}
 use native.Mathlib.Numerals.{add-one}
-use borrow.Author.Tests.{le-leb, lt-leb, lt-ltb, eq-eqb, ne-eqb, ltb-true, leb-true, not-true, not-false}
-use lib.Dec.{leb, ltb}
+use borrow.Author.Tests.{le-leb, lt-leb, eq-eqb, ne-eqb, leb-true, not-true, not-false}
+use lib.Dec.{leb}
 use lib.ListN.{length, take, drop, replicate, length-append, length-replicate, length-take, length-drop, length-map, take-append-drop}
 use lib.Seq.{sets, sets-eq, length-sets, take-add, drop-drop, take-at, drop-at, drop-append-add}
 use lib.IntN.{ℤ, natAbs}
@@ -17,21 +17,21 @@ use Rattle.refusals.specs.declared.Refusal.{Refusal}
 use Rattle.refusals.specs.declared.Refusal.the-variants.{NotValid, StoreMalformed, StoreTooShort}
 use Rattle.refusals.specs.Refusals.{numberOf}
 use Rattle.refusals.specs.Answers.{demand, every}
-use Rattle.refusals.proofs.Cases.{and-left, and-right, bool-apart}
+use Rattle.refusals.proofs.Cases.{and-left, and-right}
 use Rattle.refusals.proofs.Many.{sets-append}
-use Rattle.refusals.proofs.Numbers.{not-nought, met}
+use Rattle.refusals.proofs.Numbers.{not-nought}
 use Rattle.ranges.specs.Ranges.{within}
 use Rattle.ranges.proofs.Entries.{within-range}
 use Rattle.macros.specs.declared.Gap.{Gap}
-use Rattle.macros.specs.declared.Verdict.{Verdict}
-use Rattle.macros.specs.declared.Verdict.the-variants.{Allowed, Refused}
+use Rattle.macros.specs.declared.Survey.{Survey}
+use Rattle.macros.specs.declared.Survey.the-variants.{Formed, Malformed}
 use Rattle.macros.specs.declared.Defining.the-variants.{Defined, NotDefined}
 use Rattle.macros.specs.Store.{Entry, Layout, encoded, sizeOf, stored, entries, wellFormed, keep, below, above, one, put, isNumber, mayDefine, beforeRoom, defineRefusal, storeAfter, definingOf}
-use Rattle.macros.specs.Fronts.{Bytes, GapIs, verdictOf, roomFor, fitsIn, putIn}
+use Rattle.macros.specs.Fronts.{Bytes, GapIs, SurveyIs, roomFor, fitsIn, putIn}
 use Rattle.macros.proofs.Layouts.{Lawful, three-size, three-longest, three-lawful}
 use Rattle.macros.proofs.Reading.{size-cons, size-nil}
 use Rattle.macros.proofs.Listing.{entries-valid, whole-store, parted}
-use Rattle.macros.proofs.Lookups.{refused-before, goes-on}
+use Rattle.macros.proofs.Fronts.{formed-of, malformed-of}
 
 -- ---- the room of an entry
 
@@ -108,18 +108,6 @@ module _ (L : Layout) where
   size-append : (xs ys : List Entry) → sizeOf L (xs ++ ys) ≡ sizeOf L xs + sizeOf L ys
   size-append xs ys = ap length (encoded-append xs ys) ∙ length-append (encoded L xs) (encoded L ys)
 
-  -- fewer entries are no more bytes
-  keep-fewer : Lawful L → (p q : ℕ → Bool) → ((x : ℕ) → p x ≡ true → q x ≡ true) → (es : List Entry) → sizeOf L (keep p es) ≤ sizeOf L (keep q es)
-  unfolding keep
-  keep-fewer lawful p q h [] = omega arith
-  keep-fewer lawful p q h (e ∷ es) = go (p (e .number)) (q (e .number)) refl refl (keep-fewer lawful p q h es)
-    where
-      go : (t u : Bool) → p (e .number) ≡ t → q (e .number) ≡ u → sizeOf L (keep p es) ≤ sizeOf L (keep q es) → sizeOf L (keep p (e ∷ es)) ≤ sizeOf L (keep q (e ∷ es))
-      go true true w v r = simp (w, v) (omega (arith, r, size-cons L lawful e (keep p es), size-cons L lawful e (keep q es)))
-      go false true w v r = simp (w, v) (omega (arith, r, size-cons L lawful e (keep q es)))
-      go false false w v r = simp (w, v) r
-      go true false w v r = absurd (bool-apart (sym v ∙ h (e .number) w))
-
 module _ (L : Layout) (lawful : Lawful L) (s : List ℕ) (n : ℕ) (bytes : Bytes s) where
   abbrev es : List Entry
   es = entries L s
@@ -130,17 +118,6 @@ module _ (L : Layout) (lawful : Lawful L) (s : List ℕ) (n : ℕ) (bytes : Byte
 
   size-above : sizeOf L (below (n + 1) es) + sizeOf L (above n es) ≡ sizeOf L es
   size-above = sym (size-append L (below (n + 1) es) (above n es)) ∙ ap (sizeOf L) upto-above
-
-  pub gap-so : {a o e : ℕ} → a ≡ sizeOf L (below n es) → o ≡ sizeOf L (below (n + 1) es) → e ≡ sizeOf L es → e ≤ length s → GapIs L s n (record { at = a; old = o; end = e })
-  gap-so ea eo ee h = record {
-    at = ea;
-    old = eo;
-    end = ee;
-    forth = omega (arith, ea, eo, keep-fewer L lawful (λ x. ltb x n) (λ x. ltb x (n + 1)) (λ x q. lt-ltb x (n + 1) (omega (arith, ltb-true x n q))) es);
-    further = omega (arith, eo, ee, size-above);
-    inside = h;
-    bytes = bytes;
-  }
 
   front : take (sizeOf L (below n es)) s ≡ encoded L (below n es)
   front =
@@ -264,7 +241,7 @@ module _ (L : Layout) (lawful : Lawful L) (s : List ℕ) (n : ℕ) (cs : List �
 
 pub ruleset placings = (three-size, three-lawful, no-fit, not-touched, a-fit, rewritten)
 
--- ---- 12 and 8
+-- ---- 8
 
 module _ (L : Layout) (n : ℤ) (cs : List ℤ) where
   pub too-many : {longest : ℕ} → longest ≡ L .longest → longest < length cs → false ≡ mayDefine L n cs
@@ -286,89 +263,100 @@ module _ (L : Layout) (n : ℤ) (cs : List ℤ) where
 
 pub ruleset allowances = (three-longest, too-many, number-outside, number-inside)
 
-module _ (L : Layout) (s : List ℕ) (n : ℤ) (cs : List ℤ) {a : Bool} (ea : a ≡ wellFormed L s) where
-  pub malformed : not a ≡ true → verdictOf (Refused StoreMalformed) ≡ beforeRoom L s n cs 0
-  unfolding verdictOf beforeRoom
-  malformed t = rw (sym ea ∙ not-true a t)
-
-  module _ (t : not a ≡ false) (f : SFits w32 n) {k : Bool} (ek : k ≡ mayDefine L (toZ w32 (ofZ w32 n)) cs) where
-    pub may : k ≡ true → verdictOf Allowed ≡ beforeRoom L s n cs 0
-    unfolding verdictOf beforeRoom
-    may e = rw (sym ea ∙ not-false a t, sym (rw (toZ-ofZ f) at ek) ∙ e)
-
-    pub may-not : k ≡ false → verdictOf (Refused NotValid) ≡ beforeRoom L s n cs 0
-    unfolding verdictOf beforeRoom
-    may-not e = rw (sym ea ∙ not-false a t, sym (rw (toZ-ofZ f) at ek) ∙ e)
-
-pub ruleset verdicts = (malformed, may, may-not)
-
 -- ---- the call
 
-module _ (L : Layout) (s : List ℕ) (n : ℤ) (cs : List ℤ) (f : SFits w32 n) (r : Verdict) (er : verdictOf r ≡ beforeRoom L s (toZ w32 (ofZ w32 n)) cs 0) where
-  said : verdictOf r ≡ beforeRoom L s n cs 0
-  said = rw (toZ-ofZ f) at er
+-- where the first two tests pass, the answer is that of what comes next
+goes-on : (a b : Bool) (next : ℕ) → a ≡ true → b ≡ true → demand a 12 (demand b 8 next) ≡ next
+goes-on a b next x y = rw (x, y)
 
-  module _ (e : Refusal) (g : r ≡ Refused e) where
-    pub not-defined : definingOf (NotDefined e) ≡ defineRefusal L s n cs
-    unfolding definingOf defineRefusal verdictOf beforeRoom
-    not-defined = sym (refused-before (wellFormed L s) (mayDefine L n cs) (numberOf e) _ (not-nought e) (sym said ∙ rw g))
+module _ (L : Layout) (s : List ℕ) (n : ℤ) (cs : List ℤ) where
+  module _ (e : Refusal) (q : defineRefusal L s n cs ≡ numberOf e) where
+    refused-said : definingOf (NotDefined e) ≡ defineRefusal L s n cs
+    unfolding definingOf
+    refused-said = sym q
 
-    pub kept-store : s ≡ storeAfter L s n cs
-    unfolding storeAfter definingOf
-    kept-store = rw (← not-defined, not-nought e)
+    refused-kept : s ≡ storeAfter L s n cs
+    unfolding storeAfter
+    refused-kept = rw (q, not-nought e)
 
-  module _ (g : r ≡ Allowed) where
-    none : beforeRoom L s n cs 0 ≡ 0
-    unfolding verdictOf
-    none = sym said ∙ rw g
+  module _ {k : ℕ} (ek : k ≡ natAbs (toZ w32 (ofZ w32 n))) {r : Survey} (er : SurveyIs L s k r) where
+    module _ (e : r ≡ Malformed) where
+      twelve : defineRefusal L s n cs ≡ 12
+      unfolding defineRefusal beforeRoom
+      twelve = rw (malformed-of L s k er e)
 
-    allowed : mayDefine L n cs ≡ true
-    unfolding beforeRoom
-    allowed = met (mayDefine L n cs) 8 0 (λ q. omega (arith, q)) (met (wellFormed L s) 12 (demand (mayDefine L n cs) 8 0) (λ q. omega (arith, q)) none .1) .0
+      pub malformed : definingOf (NotDefined StoreMalformed) ≡ defineRefusal L s n cs
+      malformed = refused-said StoreMalformed twelve
 
-    pub count-allowed : {longest : ℕ} → longest ≡ L .longest → length cs ≤ longest
-    unfolding mayDefine
-    count-allowed e =
-        let h = leb-true (length cs) (L .longest) (and-left (leb (length cs) (L .longest)) (every (within 0 127) cs) (and-right (isNumber n) (leb (length cs) (L .longest) && every (within 0 127) cs) allowed)) in
-        omega (arith, e, h)
+      pub malformed-kept : s ≡ storeAfter L s n cs
+      malformed-kept = refused-kept StoreMalformed twelve
 
-    pub bytes-allowed : every (within 0 127) cs ≡ true
-    unfolding mayDefine
-    bytes-allowed = and-right (leb (length cs) (L .longest)) (every (within 0 127) cs) (and-right (isNumber n) (leb (length cs) (L .longest) && every (within 0 127) cs) allowed)
+    module _ {g : Gap} (eg : r ≡ Formed g) where
+      pub gap-known : GapIs L s k g
+      gap-known = formed-of L s k er eg .gap
 
-    module _ {k : ℕ} (ek : k ≡ natAbs (toZ w32 (ofZ w32 n))) where
-      number-is : k ≡ natAbs n
-      number-is = rw (toZ-ofZ f) at ek
+      module _ (f : SFits w32 n) {w : Bool} (ew : w ≡ mayDefine L (toZ w32 (ofZ w32 n)) cs) where
+        may-is : {t : Bool} → w ≡ t → mayDefine L n cs ≡ t
+        may-is e = sym (rw (toZ-ofZ f) at ew) ∙ e
 
-      pub number-allowed : k ≤ 32767
-      unfolding mayDefine
-      number-allowed =
-          let h : natAbs n ≤ 32767 = within-range 0 32767 n (and-left (isNumber n) (leb (length cs) (L .longest) && every (within 0 127) cs) allowed) .1 .0 in
-          omega (arith, number-is, h)
+        module _ (t : not w ≡ true) where
+          eight : defineRefusal L s n cs ≡ 8
+          unfolding defineRefusal beforeRoom
+          eight = rw (formed-of L s k er eg .formed, may-is (not-true w t))
 
-      module _ {q : Bool} (eq : q ≡ fitsIn L s k (map natAbs cs)) where
-        last : defineRefusal L s n cs ≡ demand q 13 0
-        unfolding defineRefusal beforeRoom fitsIn
-        last =
-            goes-on (wellFormed L s) (mayDefine L n cs) _ none
-            ∙ ap (λ (m : ℕ). demand (leb (sizeOf L (put m (map natAbs cs) (entries L s))) (length s)) 13 0) (sym number-is)
-            ∙ ap (λ (x : Bool). demand x 13 0) (sym eq)
+          pub may-not : definingOf (NotDefined NotValid) ≡ defineRefusal L s n cs
+          may-not = refused-said NotValid eight
 
-        module _ {t : List ℕ} (et : t ≡ putIn L s k (map natAbs cs)) where
-          pub is-defined : q ≡ true → definingOf Defined ≡ defineRefusal L s n cs
-          unfolding definingOf
-          is-defined e = sym (last ∙ rw e)
+          pub may-not-kept : s ≡ storeAfter L s n cs
+          may-not-kept = refused-kept NotValid eight
 
-          pub store-defined : q ≡ true → t ≡ storeAfter L s n cs
-          unfolding storeAfter putIn
-          store-defined e = rw (last, e) (et ∙ rw (← eq, e) (ap (λ (m : ℕ). stored L (length s) (put m (map natAbs cs) (entries L s))) number-is))
+        module _ (t : not w ≡ false) where
+          allowed : isNumber n && (leb (length cs) (L .longest) && every (within 0 127) cs) ≡ true
+          unfolding mayDefine
+          allowed = may-is (not-false w t)
 
-          pub does-not-fit : q ≡ false → definingOf (NotDefined StoreTooShort) ≡ defineRefusal L s n cs
-          unfolding definingOf
-          does-not-fit e = sym (last ∙ rw e)
+          contents-allowed : leb (length cs) (L .longest) && every (within 0 127) cs ≡ true
+          contents-allowed = and-right (isNumber n) (leb (length cs) (L .longest) && every (within 0 127) cs) allowed
 
-          pub store-kept : q ≡ false → t ≡ storeAfter L s n cs
-          unfolding storeAfter putIn
-          store-kept e = rw (last, e) (et ∙ rw (← eq, e))
+          pub count-allowed : {longest : ℕ} → longest ≡ L .longest → length cs ≤ longest
+          count-allowed e =
+              let h = leb-true (length cs) (L .longest) (and-left (leb (length cs) (L .longest)) (every (within 0 127) cs) contents-allowed) in
+              omega (arith, e, h)
 
-pub ruleset definings = (three-longest, not-defined, kept-store, count-allowed, bytes-allowed, number-allowed, is-defined, store-defined, does-not-fit, store-kept)
+          pub bytes-allowed : every (within 0 127) cs ≡ true
+          bytes-allowed = and-right (leb (length cs) (L .longest)) (every (within 0 127) cs) contents-allowed
+
+          number-is : k ≡ natAbs n
+          number-is = rw (toZ-ofZ f) at ek
+
+          pub number-allowed : k ≤ 32767
+          number-allowed =
+              let h : natAbs n ≤ 32767 = within-range 0 32767 n (and-left (isNumber n) (leb (length cs) (L .longest) && every (within 0 127) cs) allowed) .1 .0 in
+              omega (arith, number-is, h)
+
+          module _ {q : Bool} (eq : q ≡ fitsIn L s k (map natAbs cs)) where
+            last : defineRefusal L s n cs ≡ demand q 13 0
+            unfolding defineRefusal beforeRoom fitsIn
+            last =
+                goes-on (wellFormed L s) (mayDefine L n cs) _ (formed-of L s k er eg .formed) (may-is (not-false w t))
+                ∙ ap (λ (m : ℕ). demand (leb (sizeOf L (put m (map natAbs cs) (entries L s))) (length s)) 13 0) (sym number-is)
+                ∙ ap (λ (x : Bool). demand x 13 0) (sym eq)
+
+            module _ {u : List ℕ} (eu : u ≡ putIn L s k (map natAbs cs)) where
+              pub is-defined : q ≡ true → definingOf Defined ≡ defineRefusal L s n cs
+              unfolding definingOf
+              is-defined e = sym (last ∙ rw e)
+
+              pub store-defined : q ≡ true → u ≡ storeAfter L s n cs
+              unfolding storeAfter putIn
+              store-defined e = rw (last, e) (eu ∙ rw (← eq, e) (ap (λ (m : ℕ). stored L (length s) (put m (map natAbs cs) (entries L s))) number-is))
+
+              pub does-not-fit : q ≡ false → definingOf (NotDefined StoreTooShort) ≡ defineRefusal L s n cs
+              unfolding definingOf
+              does-not-fit e = sym (last ∙ rw e)
+
+              pub store-kept : q ≡ false → u ≡ storeAfter L s n cs
+              unfolding storeAfter putIn
+              store-kept e = rw (last, e) (eu ∙ rw (← eq, e))
+
+pub ruleset definings = (three-longest, malformed, malformed-kept, gap-known, may-not, may-not-kept, count-allowed, bytes-allowed, number-allowed, is-defined, store-defined, does-not-fit, store-kept)

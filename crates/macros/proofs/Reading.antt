@@ -10,7 +10,7 @@ use lib.Dec.{leb}
 use lib.ListN.{length, drop, length-take, length-drop, length-append}
 use lib.Seq.{drop-drop}
 use Rattle.refusals.proofs.Cases.{and-left, and-right}
-use Rattle.macros.specs.Store.{Entry, Layout, encoded, sizeOf, areBody, bodyIn, isEntry, entriesFrom, entries}
+use Rattle.macros.specs.Store.{Entry, Layout, encoded, sizeOf, areBody, bodyIn, isEntry, entriesFrom, entries, keep}
 use Rattle.macros.proofs.Layouts.{Lawful}
 
 -- ---- one entry
@@ -121,3 +121,17 @@ module _ (L : Layout) (lawful : Lawful L) where
 pub size-nil : (L : Layout) → sizeOf L [] ≡ 0
 unfolding encoded
 size-nil L = refl
+
+-- ---- entries by their numbers
+
+pub keep-yes : (p : ℕ → Bool) (e : Entry) (es : List Entry) → p (e .number) ≡ true → keep p (e ∷ es) ≡ e ∷ keep p es
+unfolding keep
+keep-yes p e es h = simp h
+
+pub keep-no : (p : ℕ → Bool) (e : Entry) (es : List Entry) → p (e .number) ≡ false → keep p (e ∷ es) ≡ keep p es
+unfolding keep
+keep-no p e es h = simp h
+
+pub keep-nil : (p : ℕ → Bool) → keep p [] ≡ []
+unfolding keep
+keep-nil p = refl

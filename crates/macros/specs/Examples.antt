@@ -6,7 +6,7 @@ use mathlib.Core.List.{List, [], _∷_, map}
 use lib.ListN.{replicate}
 use lib.IntN.{pos}
 use Rattle.refusals.specs.Answers.{every}
-use Rattle.macros.specs.Store.{threeBytes, encoded, isEntry, entriesFrom, wellFormed, keep, bodyOf, mayDefine, beforeRoom, defineRefusal, storeAfter, bodyInEither, lookRefusal, lookedUp, findRefusal}
+use Rattle.macros.specs.Store.{threeBytes, encoded, isEntry, entriesFrom, wellFormed, keep, bodyOf, mayDefine, beforeRoom, defineRefusal, storeAfter, bodyInEither, lookRefusal, lookedUp, findRefusal, Placed, placed}
 
 pub record Row : Type 0 where
   pub given : List ℕ
@@ -26,6 +26,12 @@ lookUp v s n number body = record {
   paper = number ∷ body;
 }
 
+-- where the body stands: the companion answer, the store, where it begins, its length
+abbrev locate : (volatile saved : List ℕ) → ℕ → (number store offset length : ℕ) → Row
+locate v s n number store offset length =
+    let p : Placed = placed threeBytes v s (pos n) in
+    record { given = p .number ∷ p .store ∷ p .offset ∷ p .length ∷ []; paper = number ∷ store ∷ offset ∷ length ∷ [] }
+
 abbrev five : List ℕ
 five = 0 ∷ 10 ∷ 2 ∷ 72 ∷ 105 ∷ 0 ∷ 0 ∷ 0 ∷ []
 
@@ -44,6 +50,9 @@ examples =
     ∷ lookUp five [] 6 14 []
     ∷ lookUp five [] 32768 8 []
     ∷ lookUp five (1 ∷ []) 32768 12 []
+    ∷ locate five (0 ∷ 10 ∷ 1 ∷ 33 ∷ []) 5 0 1 3 2
+    ∷ locate [] (0 ∷ 8 ∷ 1 ∷ 33 ∷ five) 5 0 2 7 2
+    ∷ locate five [] 6 14 0 0 0
     ∷ []
 
 abbrev given-of : Row → List ℕ
@@ -54,5 +63,5 @@ paper-of r = r .paper
 
 -- the one claim
 pub all-as-set : map given-of examples ≡ map paper-of examples
-unfolding threeBytes encoded isEntry entriesFrom wellFormed keep bodyOf mayDefine beforeRoom defineRefusal storeAfter bodyInEither lookRefusal lookedUp findRefusal every
+unfolding threeBytes encoded isEntry entriesFrom wellFormed keep bodyOf mayDefine beforeRoom defineRefusal storeAfter bodyInEither lookRefusal lookedUp findRefusal placed every
 all-as-set = refl

@@ -3,22 +3,16 @@ use Prim.Native.Nat.{ℕ, _+_, _≤_}
 use mathlib.Core.Path.{_≡_}
 use mathlib.Core.Bool.{Bool, true, false}
 use mathlib.Core.List.{List}
-use lib.Dec.{leb, eqb}
+use lib.Dec.{leb, ltb, eqb}
 use lib.ListN.{length, getD, drop}
-use Rattle.refusals.specs.Refusals.{numberOf}
 use Rattle.refusals.specs.Answers.{pick}
 use Rattle.macros.specs.declared.Header.{Header}
 use Rattle.macros.specs.declared.Front.{Front}
 use Rattle.macros.specs.declared.Front.the-variants.{Here, NoEntry}
 use Rattle.macros.specs.declared.Gap.{Gap}
-use Rattle.macros.specs.declared.Verdict.{Verdict}
-use Rattle.macros.specs.declared.Verdict.the-variants.{Allowed, Refused}
-use Rattle.macros.specs.Store.{Layout, sizeOf, stored, isEntry, entries, below, put}
-
--- what a verdict says: 0 or the refusal's number
-unfoldable pub verdictOf : Verdict → ℕ
-verdictOf Allowed = 0
-verdictOf (Refused e) = numberOf e
+use Rattle.macros.specs.declared.Survey.{Survey}
+use Rattle.macros.specs.declared.Survey.the-variants.{Formed, Malformed}
+use Rattle.macros.specs.Store.{Layout, sizeOf, stored, isEntry, entries, wellFormed, below, put}
 
 -- every element is a byte, as those of a slice of u8 are
 unfoldable pub Bytes : List ℕ → Type 0
@@ -44,7 +38,11 @@ unfoldable pub FrontIs : Layout → (least : ℕ) → List ℕ → ℕ → Front
 FrontIs L least s at (Here number from to) = EntryIs L least s at number from to
 FrontIs L least s at NoEntry = isEntry L least (drop at s) ≡ false
 
--- ---- defining
+-- ---- one pass over a store
+
+-- where a macro stands among the entries passed, and one more: that of n, which ends at to
+unfoldable pub gapBehind : Gap → (number n to : ℕ) → Gap
+gapBehind g number n to = record { at = pick (ltb n number) to (g .at); old = pick (ltb n (number + 1)) to (g .old); end = to }
 
 -- where a macro stands in a store, or would stand, and where the entries end
 pub record GapIs (L : Layout) (s : List ℕ) (number : ℕ) (g : Gap) : Type 0 where
@@ -55,6 +53,16 @@ pub record GapIs (L : Layout) (s : List ℕ) (number : ℕ) (g : Gap) : Type 0 w
   pub further : g .old ≤ g .end
   pub inside : g .end ≤ length s
   pub bytes : Bytes s
+
+pub record FormedIs (L : Layout) (s : List ℕ) (number : ℕ) (g : Gap) : Type 0 where
+  pub formed : wellFormed L s ≡ true
+  pub gap : GapIs L s number g
+
+unfoldable pub SurveyIs : Layout → List ℕ → (number : ℕ) → Survey → Type 0
+SurveyIs L s number (Formed g) = FormedIs L s number g
+SurveyIs L s number Malformed = wellFormed L s ≡ false
+
+-- ---- defining
 
 -- the bytes of an entry with a body of so many; a macro with no body has none
 unfoldable pub roomFor : Layout → (count : ℕ) → ℕ

@@ -13,6 +13,8 @@ use Rattle.macros.specs.declared.Defining.{Defining}
 use Rattle.macros.specs.declared.Defining.the-variants.{Defined, NotDefined}
 use Rattle.macros.specs.declared.Finding.{Finding}
 use Rattle.macros.specs.declared.Finding.the-variants.{Found, NotFound}
+use Rattle.macros.specs.declared.Place.{Place}
+use Rattle.macros.specs.declared.Place.the-variants.{InVolatile, InSaved, Nowhere}
 
 pub record Entry : Type 0 where
   pub number : ℕ
@@ -198,3 +200,36 @@ lookedUp L volatile saved n = pick (eqb (findRefusal L volatile saved n) 0) (bod
 unfoldable pub findingOf : Finding → ℕ
 findingOf Found = 0
 findingOf (NotFound e) = numberOf e
+
+-- ---- where the body stands
+
+-- 0 or the refusal's number; the store, 1 for the volatile one and 2 for the saved one; where the body begins in it, and its length
+pub record Placed : Type 0 where
+  pub number : ℕ
+  pub store : ℕ
+  pub offset : ℕ
+  pub length : ℕ
+
+-- "The body follows" the header, which stands behind the entries below the number
+abbrev pub placedIn : Layout → (store : ℕ) → List ℕ → ℕ → Placed
+placedIn L store s n = record { number = 0; store = store; offset = sizeOf L (below n (entries L s)) + L .size; length = length (bodyOf n (entries L s)) }
+
+-- refused, the rest is 0
+abbrev pub unplaced : ℕ → Placed
+unplaced e = record { number = e; store = 0; offset = 0; length = 0 }
+
+-- "part of the volatile store if it is there, otherwise [..] part of the saved store"
+unfoldable pub placed : Layout → (volatile saved : List ℕ) → ℤ → Placed
+placed L volatile saved n =
+    pick (eqb (findRefusal L volatile saved n) 0)
+    (pick (leb 1 (length (bodyOf (natAbs n) (entries L volatile)))) (placedIn L 1 volatile (natAbs n)) (placedIn L 2 saved (natAbs n)))
+    (unplaced (findRefusal L volatile saved n))
+
+abbrev pub storeNamed : Placed → (volatile saved : List ℕ) → List ℕ
+storeNamed p volatile saved = pick (eqb (p .store) 1) volatile saved
+
+-- what the answer says
+unfoldable pub placeOf : Place → Placed
+placeOf (InVolatile offset length) = record { number = 0; store = 1; offset = offset; length = length }
+placeOf (InSaved offset length) = record { number = 0; store = 2; offset = offset; length = length }
+placeOf (Nowhere e) = unplaced (numberOf e)

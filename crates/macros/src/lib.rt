@@ -9,8 +9,8 @@ ghost use lib.Seq.{sets};
 ghost use lib.IntN.{natAbs};
 ghost use Rattle.refusals.specs.Answers.{every};
 ghost use Rattle.ranges.specs.Ranges.{within};
-ghost use Rattle.macros.specs.Store.{threeBytes, atMost, sizeOf, entries, wellFormed, below, one, encoded, bodyOf, mayDefine, beforeRoom, defineRefusal, storeAfter, definingOf, bodyInEither, lookRefusal, lookedUp, findRefusal, findingOf};
-ghost use Rattle.macros.specs.Fronts.{HeaderIs, FrontIs, GapIs, verdictOf, roomFor, fitsIn, putIn};
+ghost use Rattle.macros.specs.Store.{threeBytes, atMost, wellFormed, one, encoded, mayDefine, defineRefusal, storeAfter, definingOf, lookedUp, findRefusal, findingOf, placed, placeOf};
+ghost use Rattle.macros.specs.Fronts.{HeaderIs, FrontIs, GapIs, SurveyIs, gapBehind, roomFor, fitsIn, putIn};
 use refusals::Refusal;
 
 // "The header is three bytes."
@@ -18,9 +18,6 @@ const HEADER: usize = 3;
 
 // The longest body.
 const LONGEST: usize = 256;
-
-// One more than the greatest macro number.
-const NUMBERS: usize = 32768;
 
 pub enum Defining {
     Defined,
@@ -32,10 +29,11 @@ pub enum Finding {
     NotFound(Refusal),
 }
 
-// Whether a call may be done.
-enum Verdict {
-    Allowed,
-    Refused(Refusal),
+// Where look up finds a body: where it begins in a store, and its length.
+pub enum Place {
+    InVolatile(usize, usize),
+    InSaved(usize, usize),
+    Nowhere(Refusal),
 }
 
 struct Header {
@@ -59,6 +57,13 @@ struct Gap {
     old: usize,
     // where all entries end
     end: usize,
+}
+
+// What one pass over a store finds.
+enum Survey {
+    // it is well formed; where the macro stands
+    Formed(Gap),
+    Malformed,
 }
 
 // ---- reading a store
@@ -132,104 +137,121 @@ fn entry_at(store: &[u8], at: usize, least: usize) -> Front
     Front::NoEntry
 }
 
-// Where the entries below a number end.
-fn place_of(store: &[u8], number: usize) -> usize
-    ensures { λ r. ⌜ (r ≡ sizeOf threeBytes (below number (entries threeBytes (now (store .entry))))) × (r ≤ length (now (store .entry))) ⌝ }
+// Where a macro stands among the entries passed, and one more: that of n, which ends at `to`.
+fn gap_behind(gap: Gap, number: usize, n: usize, to: usize) -> Gap
+    ensures { λ r. ⌜ r ≡ gapBehind gap number n to ⌝ }
 {
-    let mut at = 0;
+    if n < number {
+        return Gap {
+            at: to,
+            old: to,
+            end: to,
+        };
+    }
+    let at = gap.at;
+    if n == number {
+        return Gap {
+            at: at,
+            old: to,
+            end: to,
+        };
+    }
+    let old = gap.old;
+    Gap {
+        at: at,
+        old: old,
+        end: to,
+    }
+}
+
+// Where a macro stands, in one pass over the entries.
+fn gap_for(store: &[u8], number: usize) -> Gap
+    ensures { λ r. ⌜ GapIs threeBytes (now (store .entry)) number r ⌝ }
+{
+    let mut gap = Gap {
+        at: 0,
+        old: 0,
+        end: 0,
+    };
     let mut least = 0;
     loop {
-        match entry_at(store, at, least) {
+        let end = gap.end;
+        match entry_at(store, end, least) {
             Front::Here(n, _, to) => {
-                if n >= number {
-                    return at;
-                }
-                at = to;
+                gap = gap_behind(gap, number, n, to);
                 least = n + 1;
             }
             Front::NoEntry => {
-                return at;
+                return gap;
             }
         }
     }
 }
 
-// Where the entries end.
-fn end_of_entries(store: &[u8]) -> usize
-    ensures { λ r. ⌜ (r ≡ sizeOf threeBytes (entries threeBytes (now (store .entry)))) × (r ≤ length (now (store .entry))) ⌝ }
+// Entries, and then all zeros; a store of length 0 is well formed.
+fn inspect(store: &[u8], number: usize) -> Survey
+    ensures { λ r. ⌜ SurveyIs threeBytes (now (store .entry)) number r ⌝ }
 {
-    place_of(store, NUMBERS)
+    let gap = gap_for(store, number);
+    let end = gap.end;
+    if none_above(&store[end..], 0) {
+        return Survey::Formed(gap);
+    }
+    Survey::Malformed
 }
 
-// Entries, and then all zeros. A store of length 0 is well formed.
 pub fn is_well_formed(store: &[u8]) -> bool
     ensures { λ r. ⌜ r ≡ wellFormed threeBytes (now (store .entry)) ⌝ }
 {
-    let end = end_of_entries(store);
-    none_above(&store[end..], 0)
-}
-
-// The body of a macro in one store, or an empty part.
-fn body_in(store: &[u8], number: usize) -> &[u8]
-    ensures { λ r. ⌜ now r ≡ bodyOf number (entries threeBytes (now (store .entry))) ⌝ }
-{
-    let mut at = 0;
-    let mut least = 0;
-    loop {
-        match entry_at(store, at, least) {
-            Front::Here(n, from, to) => {
-                if n == number {
-                    return &store[from..to];
-                }
-                at = to;
-                least = n + 1;
-            }
-            Front::NoEntry => {
-                return &store[..0];
-            }
-        }
+    match inspect(store, 0) {
+        Survey::Formed(_) => true,
+        Survey::Malformed => false,
     }
 }
 
 // ---- looking up
 
-// 12 for a store, then 8 for the number.
-fn look_verdict(volatile: &[u8], saved: &[u8], number: i32) -> Verdict
-    ensures { λ r. ⌜ verdictOf r ≡ lookRefusal threeBytes (now (volatile .entry)) (now (saved .entry)) number 0 ⌝ }
+// Where the body stands, in the volatile store if it is there, otherwise in the saved store: 12, 8 and 14, in that order.
+pub fn locate<'a>(volatile: &'a [u8], saved: &'a [u8], number: i32) -> Place
+    ensures { λ r. ⌜ placeOf r ≡ placed threeBytes (now (volatile .entry)) (now (saved .entry)) number ⌝ }
 {
-    if !is_well_formed(volatile) {
-        return Verdict::Refused(Refusal::StoreMalformed);
+    let n = numbers::magnitude(number) as usize;
+    let Survey::Formed(first) = inspect(volatile, n) else {
+        return Place::Nowhere(Refusal::StoreMalformed);
+    };
+    let Survey::Formed(second) = inspect(saved, n) else {
+        return Place::Nowhere(Refusal::StoreMalformed);
+    };
+    if !ranges::is_within(0, 32767, number) {
+        return Place::Nowhere(Refusal::NotValid);
     }
-    if !is_well_formed(saved) {
-        return Verdict::Refused(Refusal::StoreMalformed);
+    if first.at < first.old {
+        let from = first.at + HEADER;
+        let long = first.old - from;
+        return Place::InVolatile(from, long);
     }
-    if ranges::is_within(0, 32767, number) {
-        return Verdict::Allowed;
+    if second.at < second.old {
+        let from = second.at + HEADER;
+        let long = second.old - from;
+        return Place::InSaved(from, long);
     }
-    Verdict::Refused(Refusal::NotValid)
+    Place::Nowhere(Refusal::NoSuchMacro)
 }
 
-// The body as part of the volatile store if it is there, otherwise as part of the saved store.
-fn body_in_either<'a>(volatile: &'a [u8], saved: &'a [u8], number: usize) -> &'a [u8]
-    ensures { λ r. ⌜ now r ≡ bodyInEither threeBytes (now (volatile .entry)) (now (saved .entry)) number ⌝ }
-{
-    let body = body_in(volatile, number);
-    if body.len() > 0 {
-        return body;
-    }
-    body_in(saved, number)
-}
-
-// The body of a macro; an empty part where `found` does not say that it is found.
+// The body as part of whichever store holds it; an empty part where there is none.
 pub fn look_up<'a>(volatile: &'a [u8], saved: &'a [u8], number: i32) -> &'a [u8]
     ensures { λ r. ⌜ now r ≡ lookedUp threeBytes (now (volatile .entry)) (now (saved .entry)) number ⌝ }
 {
-    match look_verdict(volatile, saved, number) {
-        Verdict::Refused(_) => &saved[..0],
-        Verdict::Allowed => {
-            let n = numbers::magnitude(number) as usize;
-            body_in_either(volatile, saved, n)
+    match locate(volatile, saved, number) {
+        Place::InVolatile(from, long) => {
+            let to = from + long;
+            &volatile[from..to]
         }
+        Place::InSaved(from, long) => {
+            let to = from + long;
+            &saved[from..to]
+        }
+        Place::Nowhere(_) => &saved[..0],
     }
 }
 
@@ -237,16 +259,10 @@ pub fn look_up<'a>(volatile: &'a [u8], saved: &'a [u8], number: i32) -> &'a [u8]
 pub fn found<'a>(volatile: &'a [u8], saved: &'a [u8], number: i32) -> Finding
     ensures { λ r. ⌜ findingOf r ≡ findRefusal threeBytes (now (volatile .entry)) (now (saved .entry)) number ⌝ }
 {
-    match look_verdict(volatile, saved, number) {
-        Verdict::Refused(refusal) => Finding::NotFound(refusal),
-        Verdict::Allowed => {
-            let n = numbers::magnitude(number) as usize;
-            let body = body_in_either(volatile, saved, n);
-            if body.len() > 0 {
-                return Finding::Found;
-            }
-            Finding::NotFound(Refusal::NoSuchMacro)
-        }
+    match locate(volatile, saved, number) {
+        Place::InVolatile(_, _) => Finding::Found,
+        Place::InSaved(_, _) => Finding::Found,
+        Place::Nowhere(refusal) => Finding::NotFound(refusal),
     }
 }
 
@@ -353,27 +369,13 @@ fn write_entry(store: &mut [u8], at: usize, number: usize, contents: &[i32])
 
 // ---- defining
 
-fn gap_for(store: &[u8], number: usize) -> Gap
-    requires { ⌜ number ≤ 32767 ⌝ }
-    ensures { λ r. ⌜ GapIs threeBytes (now (store .entry)) number r ⌝ }
-{
-    let at = place_of(store, number);
-    let old = place_of(store, number + 1);
-    let end = end_of_entries(store);
-    Gap {
-        at: at,
-        old: old,
-        end: end,
-    }
-}
-
 // The new entries in the place of the old ones, if they fit: what stands behind the macro is moved, its entry is written,
 // and what is then left is cleared.
-fn rewrite(store: &mut [u8], number: usize, contents: &[i32]) -> bool
+fn rewrite(store: &mut [u8], gap: Gap, number: usize, contents: &[i32]) -> bool
+    requires { ⌜ GapIs threeBytes (now store) number gap ⌝ }
     requires { ⌜ (number ≤ 32767) × (length (now contents) ≤ 256) × (every (within 0 127) (now contents) ≡ true) ⌝ }
     ensures { λ r. ⌜ (r ≡ fitsIn threeBytes (now (store .entry)) number (map natAbs (now (contents .entry)))) × (now (store .exit) ≡ putIn threeBytes (now (store .entry)) number (map natAbs (now (contents .entry)))) ⌝ }
 {
-    let gap = gap_for(store, number);
     let at = gap.at;
     let old = gap.old;
     let tail = gap.end - old;
@@ -402,31 +404,19 @@ fn may_define(number: i32, contents: &[i32]) -> bool
     false
 }
 
-// 12, then 8.
-fn define_verdict(store: &[u8], number: i32, contents: &[i32]) -> Verdict
-    ensures { λ r. ⌜ verdictOf r ≡ beforeRoom threeBytes (now (store .entry)) number (now (contents .entry)) 0 ⌝ }
-{
-    if !is_well_formed(store) {
-        return Verdict::Refused(Refusal::StoreMalformed);
-    }
-    if may_define(number, contents) {
-        return Verdict::Allowed;
-    }
-    Verdict::Refused(Refusal::NotValid)
-}
-
 // A macro is set, replaced or, by an empty array, deleted: 12, 8 and 13, in that order.
 pub fn define(store: &mut [u8], number: i32, contents: &[i32]) -> Defining
     ensures { λ r. ⌜ (definingOf r ≡ defineRefusal threeBytes (now (store .entry)) number (now (contents .entry))) × (now (store .exit) ≡ storeAfter threeBytes (now (store .entry)) number (now (contents .entry))) ⌝ }
 {
-    match define_verdict(store, number, contents) {
-        Verdict::Refused(refusal) => Defining::NotDefined(refusal),
-        Verdict::Allowed => {
-            let n = numbers::magnitude(number) as usize;
-            if rewrite(store, n, contents) {
-                return Defining::Defined;
-            }
-            Defining::NotDefined(Refusal::StoreTooShort)
-        }
+    let n = numbers::magnitude(number) as usize;
+    let Survey::Formed(gap) = inspect(store, n) else {
+        return Defining::NotDefined(Refusal::StoreMalformed);
+    };
+    if !may_define(number, contents) {
+        return Defining::NotDefined(Refusal::NotValid);
     }
+    if rewrite(store, gap, n, contents) {
+        return Defining::Defined;
+    }
+    Defining::NotDefined(Refusal::StoreTooShort)
 }

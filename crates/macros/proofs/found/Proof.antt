@@ -3,23 +3,17 @@ use borrow.Author.Needs.{needs}
 use Rattle.macros.proofs.found.Statement.{statement}
 use Rattle.macros.proofs.found.Tie as tie
 
-look-verdict-requires : tie.Need-look-verdict-requires
-look-verdict-requires c κs = search needs
-
-enum-known-refusal : tie.Need-enum-known-refusal
-enum-known-refusal c = search needs
+locate-requires : tie.Need-locate-requires
+locate-requires c κs = search needs
 
 enum-told : tie.Need-enum-told
 enum-told c = search needs
 
-magnitude-requires : tie.Need-magnitude-requires
-magnitude-requires c κs = search needs
+enum-told-2 : tie.Need-enum-told-2
+enum-told-2 c = search needs
 
-cast-n : tie.Need-cast-n
-cast-n c = search needs
-
-body-in-either-requires : tie.Need-body-in-either-requires
-body-in-either-requires c κs = search needs
+enum-known-refusal : tie.Need-enum-known-refusal
+enum-known-refusal c = search needs
 
 returns : tie.Need-returns
 returns c = search (needs, findings)
@@ -33,13 +27,4 @@ returns-3 c = search (needs, findings)
 pub found-spec : {M : Type 1} → statement M
 found-spec =
     tie.close
-    (tie.spec
-    look-verdict-requires
-    enum-known-refusal
-    enum-told
-    magnitude-requires
-    cast-n
-    body-in-either-requires
-    returns
-    returns-2
-    returns-3)
+    (tie.spec locate-requires enum-told enum-told-2 enum-known-refusal returns returns-2 returns-3)

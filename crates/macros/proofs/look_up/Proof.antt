@@ -3,8 +3,38 @@ use borrow.Author.Needs.{needs}
 use Rattle.macros.proofs.look_up.Statement.{statement}
 use Rattle.macros.proofs.look_up.Tie as tie
 
-look-verdict-requires : tie.Need-look-verdict-requires
-look-verdict-requires c κs = search needs
+locate-requires : tie.Need-locate-requires
+locate-requires c κs = search needs
+
+enum-known-from : tie.Need-enum-known-from
+enum-known-from c = search needs
+
+add-to : tie.Need-add-to
+add-to c = search (needs, findings)
+
+sub-result : tie.Need-sub-result
+sub-result c = search needs
+
+part-result-start : tie.Need-part-result-start
+part-result-start c = search needs
+
+part-result-end : tie.Need-part-result-end
+part-result-end c = search (needs, findings)
+
+enum-known-from-2 : tie.Need-enum-known-from-2
+enum-known-from-2 c = search needs
+
+add-to-2 : tie.Need-add-to-2
+add-to-2 c = search (needs, findings)
+
+sub-result-2 : tie.Need-sub-result-2
+sub-result-2 c = search needs
+
+part-result-start-2 : tie.Need-part-result-start-2
+part-result-start-2 c = search needs
+
+part-result-end-2 : tie.Need-part-result-end-2
+part-result-end-2 c = search (needs, findings)
 
 enum-told : tie.Need-enum-told
 enum-told c = search needs
@@ -12,34 +42,32 @@ enum-told c = search needs
 slice-aggregate-result : tie.Need-slice-aggregate-result
 slice-aggregate-result c = search needs
 
-enum-told-2 : tie.Need-enum-told-2
-enum-told-2 c = search needs
-
-magnitude-requires : tie.Need-magnitude-requires
-magnitude-requires c κs = search needs
-
-cast-n : tie.Need-cast-n
-cast-n c = search needs
-
-body-in-either-requires : tie.Need-body-in-either-requires
-body-in-either-requires c κs = search needs
-
 returns : tie.Need-returns
 returns c = search (needs, findings)
 
 returns-2 : tie.Need-returns-2
 returns-2 c = search (needs, findings)
 
+returns-3 : tie.Need-returns-3
+returns-3 c = search (needs, findings)
+
 pub look-up-spec : {M : Type 1} → statement M
 look-up-spec =
     tie.close
     (tie.spec
-    look-verdict-requires
+    locate-requires
+    enum-known-from
+    add-to
+    sub-result
+    part-result-start
+    part-result-end
+    enum-known-from-2
+    add-to-2
+    sub-result-2
+    part-result-start-2
+    part-result-end-2
     enum-told
     slice-aggregate-result
-    enum-told-2
-    magnitude-requires
-    cast-n
-    body-in-either-requires
     returns
-    returns-2)
+    returns-2
+    returns-3)

@@ -3,9 +3,6 @@ use borrow.Author.Needs.{needs}
 use Rattle.macros.proofs.rewrite.Statement.{statement}
 use Rattle.macros.proofs.rewrite.Tie as tie
 
-gap-for-requires : tie.Need-gap-for-requires
-gap-for-requires c κs = search needs
-
 sub-tail : tie.Need-sub-tail
 sub-tail c = search needs
 
@@ -17,9 +14,6 @@ entry-size-requires c κs = search needs
 
 sub-if1 : tie.Need-sub-if1
 sub-if1 c = search needs
-
-same-length : tie.Need-same-length
-same-length c = search needs
 
 returns : tie.Need-returns
 returns c = search (needs, placings)
@@ -39,8 +33,8 @@ add-clear-from c = search needs
 clear-from-requires : tie.Need-clear-from-requires
 clear-from-requires c κs = search needs
 
-same-length-2 : tie.Need-same-length-2
-same-length-2 c = search needs
+same-length : tie.Need-same-length
+same-length c = search needs
 
 returns-2 : tie.Need-returns-2
 returns-2 c = search (needs, placings)
@@ -49,17 +43,15 @@ pub rewrite-spec : {M : Type 1} → statement M
 rewrite-spec =
     tie.close
     (tie.spec
-    gap-for-requires
     sub-tail
     add-kept
     entry-size-requires
     sub-if1
-    same-length
     returns
     add-new
     move-within-requires
     write-entry-requires
     add-clear-from
     clear-from-requires
-    same-length-2
+    same-length
     returns-2)
