@@ -10,11 +10,11 @@ use borrow.Author.Needs.{fits-under}
 use mir.Syntax.{w64}
 use mir.Val.{Fits}
 use lib.Arith.{lt-of-le-ne}
-use lib.Dec.{ltb}
+use lib.Dec.{leb, ltb}
 use lib.ListN.{length, getD, take, drop, length-drop}
 use lib.Seq.{getD-drop, drop-drop, take-all}
 use Rattle.refusals.specs.Answers.{every, pick}
-use Rattle.refusals.proofs.Cases.{by-pick}
+use Rattle.refusals.proofs.Cases.{by-pick, bool-apart}
 use Rattle.refusals.proofs.Many.{Checking, checking-none, checking-end, checking-more, checking-no}
 use Rattle.macros.specs.declared.Header.{Header}
 use Rattle.macros.specs.declared.Front.{Front}
@@ -22,10 +22,10 @@ use Rattle.macros.specs.declared.Front.the-variants.{Here, NoEntry}
 use Rattle.macros.specs.declared.Gap.{Gap}
 use Rattle.macros.specs.declared.Survey.{Survey}
 use Rattle.macros.specs.declared.Survey.the-variants.{Formed, Malformed}
-use Rattle.macros.specs.Store.{Entry, Layout, threeIn, threeBytes, sizeOf, atMost, areBody, bodyIn, isEntry, entries, below, wellFormed}
+use Rattle.macros.specs.Store.{Entry, Layout, threeIn, threeBytes, sizeOf, atMost, areBody, bodyIn, isEntry, entries, below, wellFormed, hasBody}
 use Rattle.macros.specs.Fronts.{Bytes, HeaderIs, EntryIs, FrontIs, GapIs, FormedIs, SurveyIs, gapBehind}
 use Rattle.macros.proofs.Layouts.{Lawful, three-size, three-longest, three-lawful}
-use Rattle.macros.proofs.Reading.{Stands, stands, body-long, entryIn, restFrom, rest-all, rest-none, rest-one, size-cons, size-nil, keep-yes, keep-no, keep-nil}
+use Rattle.macros.proofs.Reading.{Stands, stands, body-long, entryIn, restFrom, rest-all, rest-none, rest-one, size-cons, size-nil, keep-yes, keep-no, keep-nil, and-no}
 
 -- ---- no byte above a bound
 
@@ -48,117 +48,155 @@ header-so s at {a} {b} {c} ea ha eb hb ec hc =
     = rw (getD-drop at s 0 0, add-zero at, getD-drop at s 1 0, getD-drop at s 2 0, ea, eb, ec) in
     record { number = ap (λ (v : ℕ). v / 512) e; long = ap (λ (v : ℕ). v % 512) e; spare = refl; small = omega arith }
 
--- ---- an entry, test by test
+-- ---- a header with room for its body, test by test
 
-and-no : (b : Bool) → b && false ≡ false
-and-no true = refl
-and-no false = refl
-
-module _ (L : Layout) (least : ℕ) (s : List ℕ) (at : ℕ) where
+module _ (L : Layout) (s : List ℕ) (at : ℕ) where
   -- bytes for a header that are not there
-  pub no-room : {size : ℕ} → size ≡ L .size → length s - at < size → FrontIs L least s at NoEntry
-  unfolding FrontIs isEntry
+  pub no-room : {size : ℕ} → size ≡ L .size → length s - at < size → FrontIs L (hasBody L) s at NoEntry
+  unfolding FrontIs hasBody
   no-room e h = rw (lt-leb (L .size) (length (drop at s)) (omega (arith, e, length-drop at s)))
 
   module _ {head : Header} (is : HeaderIs L (drop at s) head) where
-    pub no-body : head .long < 1 → FrontIs L least s at NoEntry
-    unfolding FrontIs isEntry
+    pub no-body : head .long < 1 → FrontIs L (hasBody L) s at NoEntry
+    unfolding FrontIs hasBody
     no-body h = rw (lt-leb 1 (L .lengthIn (drop at s)) (omega (arith, is .long))) (simp and-no)
 
-    pub too-long : {longest : ℕ} → longest ≡ L .longest → longest < head .long → FrontIs L least s at NoEntry
-    unfolding FrontIs isEntry
-    too-long e h = rw (lt-leb (L .lengthIn (drop at s)) (L .longest) (omega (arith, e, is .long))) (simp and-no)
-
-    pub cut-off : {size : ℕ} → size ≡ L .size → size ≤ length s - at → length s - at - size < head .long → FrontIs L least s at NoEntry
-    unfolding FrontIs isEntry
+    pub cut-off : {size : ℕ} → size ≡ L .size → size ≤ length s - at → length s - at - size < head .long → FrontIs L (hasBody L) s at NoEntry
+    unfolding FrontIs hasBody
     cut-off e g h = rw (lt-leb (L .size + L .lengthIn (drop at s)) (length (drop at s)) (omega (arith, e, is .long, length-drop at s))) (simp and-no)
 
-    pub too-low : head .number < least → FrontIs L least s at NoEntry
-    unfolding FrontIs isEntry
-    too-low h = rw (lt-leb least (L .numberIn (drop at s)) (omega (arith, is .number))) (simp and-no)
+    pub a-head : {size : ℕ} → size ≡ L .size → size ≤ length s - at → 1 ≤ head .long → head .long ≤ length s - at - size → FrontIs L (hasBody L) s at (Here (head .number) (at + size) (at + size + head .long))
+    unfolding FrontIs hasBody
+    a-head e h₁ h₂ h₃ =
+        let d = drop at s in
+        let l = is .long in
+        let m = length-drop at s in
+        record {
+          is = simp (
+            le-leb (L .size) (length d) (omega (arith, e, m)),
+            le-leb 1 (L .lengthIn d) (omega (arith, l)),
+            le-leb (L .size + L .lengthIn d) (length d) (omega (arith, e, l, m)),
+          );
+          here = is .number;
+          begins = omega (arith, e);
+          ends = omega (arith, l);
+          spare = is .spare;
+          some = omega (arith, h₂);
+          small = is .small;
+          inside = omega (arith, h₃, h₁);
+        }
 
-    module _ {size : ℕ} (e : size ≡ L .size) {b : Bool} (eb : b ≡ every (atMost 127) (take (at + size + head .long - (at + size)) (drop (at + size) s))) where
-      body-there : b ≡ areBody (bodyIn L (drop at s))
-      body-there =
-          let l : at + size + head .long - (at + size) ≡ L .lengthIn (drop at s) = omega (arith, is .long) in
-          eb ∙ rw (l, e, drop-drop)
+pub ruleset heads = (three-size, no-room, no-body, cut-off, a-head)
 
-      pub not-body : b ≡ false → FrontIs L least s at NoEntry
-      unfolding FrontIs isEntry
-      not-body t = rw (sym body-there ∙ t) (simp and-no)
+-- ---- what passes a test at a place
 
-      pub an-entry : b ≡ true → size ≤ length s - at → 1 ≤ head .long → {longest : ℕ} → longest ≡ L .longest → head .long ≤ longest → head .long ≤ length s - at - size → least ≤ head .number
-          → FrontIs L least s at (Here (head .number) (at + size) (at + size + head .long))
-      unfolding FrontIs isEntry
-      an-entry t h₁ h₂ el h₃ h₄ h₅ =
-          let d = drop at s in
-          let n = is .number in
-          let l = is .long in
-          let m = length-drop at s in
-          record {
-            is = simp (
-              le-leb (L .size) (length d) (omega (arith, e, m)),
-              le-leb 1 (L .lengthIn d) (omega (arith, l)),
-              le-leb (L .lengthIn d) (L .longest) (omega (arith, l, el)),
-              le-leb (L .size + L .lengthIn d) (length d) (omega (arith, e, l, m)),
-              is .spare,
-              le-leb least (L .numberIn d) (omega (arith, n)),
-              sym body-there ∙ t,
-            );
-            here = n;
-            begins = omega (arith, e);
-            ends = omega (arith, l);
-            small = is .small;
-            inside = omega (arith, h₂, h₄, h₁);
-          }
-
-pub ruleset fronts = (three-size, three-longest, no-room, no-body, too-long, cut-off, too-low, not-body, an-entry)
-
--- ---- passing entries
-
-module _ (L : Layout) (least : ℕ) (s : List ℕ) (at : ℕ) {r : Front} (is : FrontIs L least s at r) where
-  pub entry-of : {n from to : ℕ} → r ≡ Here n from to → EntryIs L least s at n from to
+module _ (L : Layout) (passes : List ℕ → Bool) (s : List ℕ) (at : ℕ) (r : Front) (is : FrontIs L passes s at r) where
+  pub entry-of : {n from to : ℕ} → r ≡ Here n from to → EntryIs L passes s at n from to
   unfolding FrontIs
   entry-of g = rw g at is
 
-  pub none-of : r ≡ NoEntry → isEntry L least (drop at s) ≡ false
+  pub none-of : r ≡ NoEntry → passes (drop at s) ≡ false
   unfolding FrontIs
   none-of g = rw g at is
 
   module _ {n from to : ℕ} (g : r ≡ Here n from to) where
-    entry : EntryIs L least s at n from to
-    entry = entry-of g
-
-    front : Stands L least (drop at s)
-    front = stands L least (drop at s) (entry .is)
-
     pub closer : length s - to < length s - at
-    closer = omega (arith, entry .begins, entry .ends, entry .inside, front .some)
+    closer = let y = entry-of g in omega (arith, y .begins, y .some, y .inside)
 
     pub inside-of : to ≤ length s
-    inside-of = entry .inside
+    inside-of = entry-of g .inside
 
     pub next-of : Fits w64 (n + 1)
-    next-of = fits-under w64 (n + 1) 32769 (omega (arith, entry .small)) tt
+    next-of = fits-under w64 (n + 1) 32769 (omega (arith, entry-of g .small)) tt
 
     pub from-of : from ≤ to
-    from-of = omega (arith, entry .ends)
-
-    -- what is left of the store from here on: this entry, and what is left behind it
-    pub rest-of : restFrom L s at least ≡ entryIn L (drop at s) ∷ restFrom L s to (n + 1)
-    rest-of =
-        let p : at + L .size + L .lengthIn (drop at s) ≡ to = omega (arith, entry .begins, entry .ends) in
-        rest-one L s at least (entry .is) ∙ rw (p, ← entry .here)
+    from-of = omega (arith, entry-of g .some)
 
     pub body-of : take (to - from) (drop from s) ≡ bodyIn L (drop at s)
     body-of =
-        let l : to - from ≡ L .lengthIn (drop at s) = omega (arith, entry .ends) in
-        rw (l, entry .begins, drop-drop)
-
-    pub long-of : length (bodyIn L (drop at s)) ≡ to - from
-    long-of = body-long L least (drop at s) (entry .is) ∙ omega (arith, entry .ends)
+        let y = entry-of g in
+        let l : to - from ≡ L .lengthIn (drop at s) = omega (arith, y .ends) in
+        rw (l, y .begins, drop-drop)
 
 pub ruleset passings = (closer, inside-of, next-of, from-of)
+
+-- ---- an entry, by its header and two tests more
+
+headless : (a b c more rest : Bool) → a && (b && c) ≡ false → a && (b && (more && (c && rest))) ≡ false
+headless true true true more rest e = absurd (bool-apart (sym e))
+headless true true false more rest e = and-no more
+headless true false c more rest e = refl
+headless false b c more rest e = refl
+
+module _ (L : Layout) (s : List ℕ) (at least : ℕ) (r : Front) (is : FrontIs L (hasBody L) s at r) where
+  pub no-head : r ≡ NoEntry → FrontIs L (isEntry L least) s at NoEntry
+  unfolding FrontIs isEntry hasBody
+  no-head e =
+      let d = drop at s in
+      headless (leb (L .size) (length d)) (leb 1 (L .lengthIn d)) (leb (L .size + L .lengthIn d) (length d)) (leb (L .lengthIn d) (L .longest)) (L .spareZero d && (leb least (L .numberIn d) && areBody (bodyIn L d)))
+      (none-of L (hasBody L) s at r is e)
+
+  module _ {n from to : ℕ} (g : r ≡ Here n from to) where
+    head : EntryIs L (hasBody L) s at n from to
+    head = entry-of L (hasBody L) s at r is g
+
+    pub too-long : {longest : ℕ} → longest ≡ L .longest → longest < to - from → FrontIs L (isEntry L least) s at NoEntry
+    unfolding FrontIs isEntry
+    too-long e h = rw (lt-leb (L .lengthIn (drop at s)) (L .longest) (omega (arith, e, h, head .ends))) (simp and-no)
+
+    pub too-low : n < least → FrontIs L (isEntry L least) s at NoEntry
+    unfolding FrontIs isEntry
+    too-low h = rw (lt-leb least (L .numberIn (drop at s)) (omega (arith, h, head .here))) (simp and-no)
+
+    module _ {b : Bool} (eb : b ≡ every (atMost 127) (take (to - from) (drop from s))) where
+      body-there : b ≡ areBody (bodyIn L (drop at s))
+      body-there = eb ∙ ap (every (atMost 127)) (body-of L (hasBody L) s at r is g)
+
+      pub not-body : b ≡ false → FrontIs L (isEntry L least) s at NoEntry
+      unfolding FrontIs isEntry
+      not-body t = rw (sym body-there ∙ t) (simp and-no)
+
+      pub an-entry : b ≡ true → {longest : ℕ} → longest ≡ L .longest → to - from ≤ longest → least ≤ n → FrontIs L (isEntry L least) s at (Here n from to)
+      unfolding FrontIs isEntry
+      an-entry t el h₁ h₂ =
+          let d = drop at s in
+          let y = head in
+          let m = length-drop at s in
+          record {
+            is = simp (
+              le-leb (L .size) (length d) (omega (arith, m, y .begins, y .some, y .inside)),
+              le-leb 1 (L .lengthIn d) (omega (arith, y .ends, y .some)),
+              le-leb (L .lengthIn d) (L .longest) (omega (arith, y .ends, el, h₁)),
+              le-leb (L .size + L .lengthIn d) (length d) (omega (arith, m, y .begins, y .ends, y .some, y .inside)),
+              y .spare,
+              le-leb least (L .numberIn d) (omega (arith, h₂, y .here)),
+              sym body-there ∙ t,
+            );
+            here = y .here;
+            begins = y .begins;
+            ends = y .ends;
+            spare = y .spare;
+            some = y .some;
+            small = y .small;
+            inside = y .inside;
+          }
+
+pub ruleset fronts = (three-longest, from-of, inside-of, no-head, too-long, too-low, not-body, an-entry)
+
+-- ---- passing entries
+
+module _ (L : Layout) (s : List ℕ) (at least : ℕ) (r : Front) (is : FrontIs L (isEntry L least) s at r) {n from to : ℕ} (g : r ≡ Here n from to) where
+  here : EntryIs L (isEntry L least) s at n from to
+  here = entry-of L (isEntry L least) s at r is g
+
+  -- what is left of the store from here on: this entry, and what is left behind it
+  pub rest-of : restFrom L s at least ≡ entryIn L (drop at s) ∷ restFrom L s to (n + 1)
+  rest-of =
+      let p : at + L .size + L .lengthIn (drop at s) ≡ to = omega (arith, here .begins, here .ends) in
+      rest-one L s at least (here .is) ∙ rw (p, ← here .here)
+
+  pub long-of : length (bodyIn L (drop at s)) ≡ to - from
+  long-of = body-long L least (drop at s) (here .is) ∙ omega (arith, here .ends)
 
 -- ---- where a macro stands among the entries passed
 
@@ -211,9 +249,9 @@ module _ (L : Layout) (s : List ℕ) (at least : ℕ) (none : restFrom L s at le
       omega (arith, e, p .left)
 
 -- one more
-module _ (L : Layout) (lawful : Lawful L) (s : List ℕ) (at least : ℕ) {r : Front} (is : FrontIs L least s at r) {n from to : ℕ} (g : r ≡ Here n from to) where
-  here : EntryIs L least s at n from to
-  here = entry-of L least s at is g
+module _ (L : Layout) (lawful : Lawful L) (s : List ℕ) (at least : ℕ) (r : Front) (is : FrontIs L (isEntry L least) s at r) {n from to : ℕ} (g : r ≡ Here n from to) where
+  passed : EntryIs L (isEntry L least) s at n from to
+  passed = entry-of L (isEntry L least) s at r is g
 
   abbrev first : Entry
   first = entryIn L (drop at s)
@@ -222,32 +260,32 @@ module _ (L : Layout) (lawful : Lawful L) (s : List ℕ) (at least : ℕ) {r : F
   rest = restFrom L s to (n + 1)
 
   behind-it : to ≡ at + L .size + length (first .body)
-  behind-it = omega (arith, long-of L least s at is g, here .begins, here .ends)
+  behind-it = omega (arith, long-of L s at least r is g, passed .begins, passed .ends, passed .some)
 
   passed-one : (number x : ℕ) → Passing L s number least x at → Passing L s number (n + 1) (pick (ltb n number) to x) to
   passed-one number x p =
       by-pick (λ (y : ℕ). Passing L s number (n + 1) y to) (ltb n number) to x
       (λ t.
       let e : sizeOf L (below number (restFrom L s at least)) ≡ L .size + length (first .body) + sizeOf L (below number rest)
-      = ap (λ (es : List Entry). sizeOf L (below number es)) (rest-of L least s at is g)
-      ∙ ap (sizeOf L) (keep-yes _ first rest (ap (λ (m : ℕ). ltb m number) (sym (here .here)) ∙ t))
+      = ap (λ (es : List Entry). sizeOf L (below number es)) (rest-of L s at least r is g)
+      ∙ ap (sizeOf L) (keep-yes _ first rest (ap (λ (m : ℕ). ltb m number) (sym (passed .here)) ∙ t))
       ∙ size-cons L lawful first (below number rest) in
-      let y = stands L least (drop at s) (here .is) in
-      let h : x ≡ at = p .here (omega (arith, y .rising, here .here, ltb-true n number t)) in
+      let y = stands L least (drop at s) (passed .is) in
+      let h : x ≡ at = p .here (omega (arith, y .rising, passed .here, ltb-true n number t)) in
       record { left = omega (arith, e, p .left, behind-it, h); here = λ q. refl })
       (λ t.
       let e : sizeOf L (below number (restFrom L s at least)) ≡ sizeOf L (below number rest)
-      = ap (λ (es : List Entry). sizeOf L (below number es)) (rest-of L least s at is g)
-      ∙ ap (sizeOf L) (keep-no _ first rest (ap (λ (m : ℕ). ltb m number) (sym (here .here)) ∙ t)) in
+      = ap (λ (es : List Entry). sizeOf L (below number es)) (rest-of L s at least r is g)
+      ∙ ap (sizeOf L) (keep-no _ first rest (ap (λ (m : ℕ). ltb m number) (sym (passed .here)) ∙ t)) in
       record { left = omega (arith, e, p .left); here = λ q. absurd (omega (arith, q, ltb-false n number t)) })
 
   passed-size : sizeOf L (restFrom L s at least) ≡ L .size + length (first .body) + sizeOf L rest
-  passed-size = ap (sizeOf L) (rest-of L least s at is g) ∙ size-cons L lawful first rest
+  passed-size = ap (sizeOf L) (rest-of L s at least r is g) ∙ size-cons L lawful first rest
 
-module _ (L : Layout) (lawful : Lawful L) (s : List ℕ) (number : ℕ) (g : Gap) (least : ℕ) (inv : Surveying L s number g least) {r : Front} (is : FrontIs L least s (g .end) r) where
+module _ (L : Layout) (lawful : Lawful L) (s : List ℕ) (number : ℕ) (g : Gap) (least : ℕ) (inv : Surveying L s number g least) (r : Front) (is : FrontIs L (isEntry L least) s (g .end) r) where
   pub surveyed-end : r ≡ NoEntry → Bytes s → GapIs L s number g
   surveyed-end e bytes =
-      let none = rest-none L s (g .end) least (none-of L least s (g .end) is e) in
+      let none = rest-none L s (g .end) least (none-of L (isEntry L least) s (g .end) r is e) in
       record {
         at = passed-all L s (g .end) least none number (g .at) (inv .low);
         old = passed-all L s (g .end) least none (number + 1) (g .old) (inv .upto);
@@ -267,18 +305,18 @@ module _ (L : Layout) (lawful : Lawful L) (s : List ℕ) (number : ℕ) (g : Gap
 
     pub surveyed-less : {g′ : Gap} → g′ ≡ gapBehind g number n to → length s - g′ .end < length s - g .end
     unfolding gapBehind
-    surveyed-less q = rw q (closer L least s (g .end) is e)
+    surveyed-less q = rw q (closer L (isEntry L least) s (g .end) r is e)
 
     pub surveyed-on : {g′ : Gap} → g′ ≡ gapBehind g number n to → Surveying L s number g′ (n + 1)
     unfolding gapBehind
     surveyed-on q =
-        let h : g .end ≤ to = omega (arith, behind-it L lawful s (g .end) least is e) in
+        let h : g .end ≤ to = omega (arith, behind-it L lawful s (g .end) least r is e) in
         subst (λ (x : Gap). Surveying L s number x (n + 1)) (sym q)
         (record {
-          inside = inside-of L least s (g .end) is e;
-          low = passed-one L lawful s (g .end) least is e number (g .at) (inv .low);
-          upto = passed-one L lawful s (g .end) least is e (number + 1) (g .old) (inv .upto);
-          all = omega (arith, inv .all, passed-size L lawful s (g .end) least is e, behind-it L lawful s (g .end) least is e);
+          inside = inside-of L (isEntry L least) s (g .end) r is e;
+          low = passed-one L lawful s (g .end) least r is e number (g .at) (inv .low);
+          upto = passed-one L lawful s (g .end) least r is e (number + 1) (g .old) (inv .upto);
+          all = omega (arith, inv .all, passed-size L lawful s (g .end) least r is e, behind-it L lawful s (g .end) least r is e);
           forth = forth-on (ltb n number) (ltb n (number + 1)) refl refl h;
           further = by-pick (λ (y : ℕ). y ≤ to) (ltb n (number + 1)) to (g .old) (λ t. omega arith) (λ t. omega (arith, inv .further, h));
         })

@@ -7,4 +7,5 @@ pub mod Lookups
 pub mod Writing
 pub mod Placing
 pub mod Stores
+pub mod Headers
 pub mod Coinciding

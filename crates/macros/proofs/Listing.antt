@@ -14,7 +14,7 @@ use Rattle.refusals.proofs.Cases.{and-left, and-right, bool-apart}
 use Rattle.macros.specs.Store.{Entry, Layout, encoded, sizeOf, stored, areBody, areZeros, bodyIn, isEntry, entriesFrom, entries, wellFormed, Fits, Valid, keep, below, above, one, put, bodyOf}
 use Rattle.macros.specs.Fronts.{Bytes}
 use Rattle.macros.proofs.Layouts.{Lawful}
-use Rattle.macros.proofs.Reading.{stands, body-long, entryIn, behind, first-entry, no-entry, size-cons}
+use Rattle.macros.proofs.Reading.{stands, body-long, entryIn, behind, first-entry, no-entry, size-cons, and-no}
 
 -- ---- lists of entries
 
@@ -33,16 +33,12 @@ none-at-all : (L : Layout) (least : ℕ) (d : List ℕ) → entriesFrom L zero l
 unfolding entriesFrom
 none-at-all L least d = refl
 
-and-no : (b : Bool) → b && false ≡ false
-and-no true = refl
-and-no false = refl
-
 all-zeros : (n : ℕ) → areZeros (replicate n 0) ≡ true
 unfolding every
 all-zeros zero = refl
 all-zeros (suc n) = all-zeros n
 
-only-zeros : (l : List ℕ) → areZeros l ≡ true → l ≡ replicate (length l) 0
+pub only-zeros : (l : List ℕ) → areZeros l ≡ true → l ≡ replicate (length l) 0
 unfolding every
 only-zeros [] e = refl
 only-zeros (x ∷ l) e =

@@ -19,11 +19,11 @@ use Rattle.macros.proofs.Reading.{stands, body-long, entryIn, behind, s
 
 -- ---- the body of a macro in a list of entries
 
-this-one : (n : ℕ) (e : Entry) (es : List Entry) → e .number ≡ n → bodyOf n (e ∷ es) ≡ e .body
+pub this-one : (n : ℕ) (e : Entry) (es : List Entry) → e .number ≡ n → bodyOf n (e ∷ es) ≡ e .body
 unfolding bodyOf
 this-one n e es h = simp (eq-eqb (e .number) n h)
 
-another : (n : ℕ) (e : Entry) (es : List Entry) → (e .number ≡ n → ⊥) → bodyOf n (e ∷ es) ≡ bodyOf n es
+pub another : (n : ℕ) (e : Entry) (es : List Entry) → (e .number ≡ n → ⊥) → bodyOf n (e ∷ es) ≡ bodyOf n es
 unfolding bodyOf
 another n e es h = simp (ne-eqb (e .number) n h)
 

@@ -29,7 +29,7 @@ use Rattle.macros.specs.declared.Defining.the-variants.{Defined, NotDefi
 use Rattle.macros.specs.Store.{Entry, Layout, encoded, sizeOf, stored, entries, wellFormed, keep, below, above, one, put, isNumber, mayDefine, beforeRoom, defineRefusal, storeAfter, definingOf}
 use Rattle.macros.specs.Fronts.{Bytes, GapIs, SurveyIs, roomFor, fitsIn, putIn}
 use Rattle.macros.proofs.Layouts.{Lawful, three-size, three-longest, three-lawful}
-use Rattle.macros.proofs.Reading.{size-cons, size-nil}
+use Rattle.macros.proofs.Reading.{size-cons, size-nil, and-no}
 use Rattle.macros.proofs.Listing.{entries-valid, whole-store, parted}
 use Rattle.macros.proofs.Fronts.{formed-of, malformed-of}
 
@@ -68,10 +68,6 @@ one-size L lawful n (c ∷ cs) =
   where
     apart : length (c ∷ cs) ≡ 0 → ⊥
     apart e = omega (arith, e)
-
-no-and : (b : Bool) → b && false ≡ false
-no-and true = refl
-no-and false = refl
 
 module _ (L : Layout) (number : ℕ) (cs : List ℤ) (s : List ℕ) (at : ℕ) where
   pub nothing-written : length cs ≡ 0 → s ≡ sets s at (encoded L (one number (map natAbs cs)))
@@ -246,7 +242,7 @@ pub ruleset placings = (three-size, three-lawful, no-fit, not-touched, a-fit, re
 module _ (L : Layout) (n : ℤ) (cs : List ℤ) where
   pub too-many : {longest : ℕ} → longest ≡ L .longest → longest < length cs → false ≡ mayDefine L n cs
   unfolding mayDefine
-  too-many e h = rw (lt-leb (length cs) (L .longest) (omega (arith, e, h))) (sym (no-and (isNumber n)))
+  too-many e h = rw (lt-leb (length cs) (L .longest) (omega (arith, e, h))) (sym (and-no (isNumber n)))
 
   -- the number comes back from the callee's contract as the machine reads it
   module _ (f : SFits w32 n) {k : Bool} (ek : k ≡ within 0 32767 (toZ w32 (ofZ w32 n))) where

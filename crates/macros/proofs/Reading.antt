@@ -1,7 +1,7 @@
 -- Entries at the front of bytes: what an entry is made of, and what is left of a store behind one.
 use Prim.Native.Nat.{ℕ, zero, suc, _+_, _-_, _≤_}
 use mathlib.Core.Path.{_≡_, refl, sym, _∙_, ap}
-use mathlib.Core.Bool.{Bool, true, false}
+use mathlib.Core.Bool.{Bool, true, false, _&&_}
 use mathlib.Core.List.{List, [], _∷_, _++_}
 use native.Mathlib.Omega.{arith}
 use native.Mathlib.Numerals.{sub-one}
@@ -14,6 +14,10 @@ use Rattle.macros.specs.Store.{Entry, Layout, encoded, sizeOf, areBody, 
 use Rattle.macros.proofs.Layouts.{Lawful}
 
 -- ---- one entry
+
+pub and-no : (b : Bool) → b && false ≡ false
+and-no true = refl
+and-no false = refl
 
 -- what the test says
 pub record Stands (L : Layout) (least : ℕ) (d : List ℕ) : Type 0 where

@@ -128,7 +128,7 @@ module _ (L : Layout) (v w s t : List ℕ) (m : ℤ) where
   looked-alike a b c d = rw (a, b, c, d)
 
 -- two well-formed stores and a number in its range: the body in the first, or else in the second
-looked-so : (L : Layout) (v s : List ℕ) (n : ℤ) → wellFormed L v ≡ true → wellFormed L s ≡ true → isNumber n ≡ true → lookedUp L v s n ≡ orElse (bodyOf (natAbs n) (entries L v)) (bodyOf (natAbs n) (entries L s))
+pub looked-so : (L : Layout) (v s : List ℕ) (n : ℤ) → wellFormed L v ≡ true → wellFormed L s ≡ true → isNumber n ≡ true → lookedUp L v s n ≡ orElse (bodyOf (natAbs n) (entries L v)) (bodyOf (natAbs n) (entries L s))
 unfolding lookedUp findRefusal lookRefusal bodyInEither
 looked-so L v s n a b c = rw (a, b, c) (go (orElse (bodyOf (natAbs n) (entries L v)) (bodyOf (natAbs n) (entries L s))))
   where

@@ -1,5 +1,5 @@
 -- What the functions behind the calls say of a header and of an entry at a place of a store.
-use Prim.Native.Nat.{ℕ, _+_, _≤_}
+use Prim.Native.Nat.{ℕ, _+_, _≤_, _<_}
 use mathlib.Core.Path.{_≡_}
 use mathlib.Core.Bool.{Bool, true, false}
 use mathlib.Core.List.{List}
@@ -12,7 +12,7 @@ use Rattle.macros.specs.declared.Front.the-variants.{Here, NoEntry}
 use Rattle.macros.specs.declared.Gap.{Gap}
 use Rattle.macros.specs.declared.Survey.{Survey}
 use Rattle.macros.specs.declared.Survey.the-variants.{Formed, Malformed}
-use Rattle.macros.specs.Store.{Layout, sizeOf, stored, isEntry, entries, wellFormed, below, put}
+use Rattle.macros.specs.Store.{Layout, sizeOf, stored, entries, wellFormed, below, put}
 
 -- every element is a byte, as those of a slice of u8 are
 unfoldable pub Bytes : List ℕ → Type 0
@@ -25,18 +25,20 @@ pub record HeaderIs (L : Layout) (d : List ℕ) (h : Header) : Type 0 where
   pub spare : L .spareZero d ≡ true
   pub small : h .number ≤ 32767
 
--- an entry at a place: its number, and where its body begins and ends
-pub record EntryIs (L : Layout) (least : ℕ) (s : List ℕ) (at number from to : ℕ) : Type 0 where
-  pub is : isEntry L least (drop at s) ≡ true
+-- what passes a test at a place: its number, and where its body begins and ends
+pub record EntryIs (L : Layout) (passes : List ℕ → Bool) (s : List ℕ) (at number from to : ℕ) : Type 0 where
+  pub is : passes (drop at s) ≡ true
   pub here : number ≡ L .numberIn (drop at s)
   pub begins : from ≡ at + L .size
   pub ends : to ≡ from + L .lengthIn (drop at s)
+  pub spare : L .spareZero (drop at s) ≡ true
+  pub some : from < to
   pub small : number ≤ 32767
   pub inside : to ≤ length s
 
-unfoldable pub FrontIs : Layout → (least : ℕ) → List ℕ → ℕ → Front → Type 0
-FrontIs L least s at (Here number from to) = EntryIs L least s at number from to
-FrontIs L least s at NoEntry = isEntry L least (drop at s) ≡ false
+unfoldable pub FrontIs : Layout → (passes : List ℕ → Bool) → List ℕ → ℕ → Front → Type 0
+FrontIs L passes s at (Here number from to) = EntryIs L passes s at number from to
+FrontIs L passes s at NoEntry = passes (drop at s) ≡ false
 
 -- ---- one pass over a store
 

@@ -233,3 +233,22 @@ unfoldable pub placeOf : Place → Placed
 placeOf (InVolatile offset length) = record { number = 0; store = 1; offset = offset; length = length }
 placeOf (InSaved offset length) = record { number = 0; store = 2; offset = offset; length = length }
 placeOf (Nowhere e) = unplaced (numberOf e)
+
+-- ---- looking up by the headers alone
+
+-- a header at the front of the bytes, with room for its body; zeros are none
+unfoldable pub hasBody : Layout → List ℕ → Bool
+hasBody L s = leb (L .size) (length s) && (leb 1 (L .lengthIn s) && leb (L .size + L .lengthIn s) (length s))
+
+-- the body of a macro, from header to header; there are at most k. In "rising macro number" it does not stand behind a greater one
+unfoldable pub bodyByHeaders : Layout → (k number : ℕ) → List ℕ → List ℕ
+bodyByHeaders L zero n s = []
+bodyByHeaders L (suc k) n s =
+    pick (hasBody L s && leb (L .numberIn s) n)
+    (pick (eqb (L .numberIn s) n) (bodyIn L s) (bodyByHeaders L k n (drop (L .size + L .lengthIn s) s)))
+    []
+
+-- in the volatile store if it is there, otherwise in the saved store; none for an outside number
+unfoldable pub lookedByHeaders : Layout → (volatile saved : List ℕ) → ℤ → List ℕ
+lookedByHeaders L volatile saved n =
+    pick (isNumber n) (orElse (bodyByHeaders L (length volatile) (natAbs n) volatile) (bodyByHeaders L (length saved) (natAbs n) saved)) []

@@ -9,7 +9,7 @@ ghost use lib.Seq.{sets};
 ghost use lib.IntN.{natAbs};
 ghost use Rattle.refusals.specs.Answers.{every};
 ghost use Rattle.ranges.specs.Ranges.{within};
-ghost use Rattle.macros.specs.Store.{threeBytes, atMost, wellFormed, one, encoded, mayDefine, defineRefusal, storeAfter, definingOf, lookedUp, findRefusal, findingOf, placed, placeOf};
+ghost use Rattle.macros.specs.Store.{threeBytes, atMost, isEntry, wellFormed, one, encoded, mayDefine, defineRefusal, storeAfter, definingOf, lookedUp, findRefusal, findingOf, placed, placeOf, hasBody, bodyByHeaders, lookedByHeaders};
 ghost use Rattle.macros.specs.Fronts.{HeaderIs, FrontIs, GapIs, SurveyIs, gapBehind, roomFor, fitsIn, putIn};
 use refusals::Refusal;
 
@@ -105,10 +105,10 @@ fn header_at(store: &[u8], at: usize) -> Header
     }
 }
 
-// The entry at a place, if it may stand there with `least` the least number that it may have.
-fn entry_at(store: &[u8], at: usize, least: usize) -> Front
+// A header at a place, with room for its body.
+fn headed_at(store: &[u8], at: usize) -> Front
     requires { ⌜ at ≤ length (now store) ⌝ }
-    ensures { λ r. ⌜ FrontIs threeBytes least (now (store .entry)) at r ⌝ }
+    ensures { λ r. ⌜ FrontIs threeBytes (hasBody threeBytes) (now (store .entry)) at r ⌝ }
 {
     let room = store.len() - at;
     if room < HEADER {
@@ -120,17 +120,28 @@ fn entry_at(store: &[u8], at: usize, least: usize) -> Front
     if long < 1 {
         return Front::NoEntry;
     }
-    if long > LONGEST {
+    if room - HEADER < long {
         return Front::NoEntry;
     }
-    if room - HEADER < long {
+    let from = at + HEADER;
+    let to = from + long;
+    Front::Here(number, from, to)
+}
+
+// The entry at a place, if it may stand there with `least` the least number that it may have.
+fn entry_at(store: &[u8], at: usize, least: usize) -> Front
+    requires { ⌜ at ≤ length (now store) ⌝ }
+    ensures { λ r. ⌜ FrontIs threeBytes (isEntry threeBytes least) (now (store .entry)) at r ⌝ }
+{
+    let Front::Here(number, from, to) = headed_at(store, at) else {
+        return Front::NoEntry;
+    };
+    if to - from > LONGEST {
         return Front::NoEntry;
     }
     if number < least {
         return Front::NoEntry;
     }
-    let from = at + HEADER;
-    let to = from + long;
     if none_above(&store[from..to], 127) {
         return Front::Here(number, from, to);
     }
@@ -264,6 +275,46 @@ pub fn found<'a>(volatile: &'a [u8], saved: &'a [u8], number: i32) -> Finding
         Place::InSaved(_, _) => Finding::Found,
         Place::Nowhere(refusal) => Finding::NotFound(refusal),
     }
+}
+
+// ---- looking up by the headers alone
+
+// The body of a macro in one store, from header to header, or an empty part.
+fn body_by_headers(store: &[u8], number: usize) -> &[u8]
+    ensures { λ r. ⌜ now r ≡ bodyByHeaders threeBytes (length (now (store .entry))) number (now (store .entry)) ⌝ }
+{
+    let mut at = 0;
+    loop {
+        match headed_at(store, at) {
+            Front::Here(n, from, to) => {
+                if n == number {
+                    return &store[from..to];
+                }
+                if n > number {
+                    return &store[..0];
+                }
+                at = to;
+            }
+            Front::NoEntry => {
+                return &store[..0];
+            }
+        }
+    }
+}
+
+// What look up gives where both stores are known to be well formed: no byte of a body is looked at.
+pub fn look_by_headers<'a>(volatile: &'a [u8], saved: &'a [u8], number: i32) -> &'a [u8]
+    ensures { λ r. ⌜ now r ≡ lookedByHeaders threeBytes (now (volatile .entry)) (now (saved .entry)) number ⌝ }
+{
+    if !ranges::is_within(0, 32767, number) {
+        return &saved[..0];
+    }
+    let n = numbers::magnitude(number) as usize;
+    let body = body_by_headers(volatile, n);
+    if body.len() > 0 {
+        return body;
+    }
+    body_by_headers(saved, n)
 }
 
 // ---- moving a stretch within a store
