@@ -1,0 +1,41 @@
+use Rattle.macro_calls.proofs.Answers.{volatile-number, volatile-fields, saved-number, saved-fields, nowhere-number, nowhere-fields}
+use borrow.Author.Needs.{needs}
+use Rattle.macro_calls.proofs.ardh_look_up.Statement.{statement}
+use Rattle.macro_calls.proofs.ardh_look_up.Tie as tie
+
+locate-requires : tie.Need-locate-requires
+locate-requires c κs = search needs
+
+enum-known-from : tie.Need-enum-known-from
+enum-known-from c = search needs
+
+enum-known-from-2 : tie.Need-enum-known-from-2
+enum-known-from-2 c = search needs
+
+enum-known-e : tie.Need-enum-known-e
+enum-known-e c = search needs
+
+number-requires : tie.Need-number-requires
+number-requires c κs = search needs
+
+returns : tie.Need-returns
+returns c = (search (needs, volatile-number), search (needs, volatile-fields))
+
+returns-2 : tie.Need-returns-2
+returns-2 c = (search (needs, saved-number), search (needs, saved-fields))
+
+returns-3 : tie.Need-returns-3
+returns-3 c = (search (needs, nowhere-number), search (needs, nowhere-fields))
+
+pub ardh-look-up-spec : {M : Type 1} → statement M
+ardh-look-up-spec =
+    tie.close
+    (tie.spec
+    locate-requires
+    enum-known-from
+    enum-known-from-2
+    enum-known-e
+    number-requires
+    returns
+    returns-2
+    returns-3)

@@ -1,0 +1,13 @@
+-- Where a body stands and what an expansion comes to, as the header's slots hold them.
+use Prim.Native.Nat.{ℕ}
+use mathlib.Core.List.{List, [], _∷_}
+use Rattle.macros.specs.Store.{Placed}
+use Rattle.expansion.specs.Expansion.{Told}
+
+-- the store, where the body begins in it, and its length
+unfoldable pub placeFields : Placed → List ℕ
+placeFields p = p .store ∷ p .offset ∷ p .length ∷ []
+
+-- "bytes written and macros entered"
+unfoldable pub countFields : Told → List ℕ
+countFields t = t .written ∷ t .entered ∷ []
