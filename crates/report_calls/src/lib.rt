@@ -98,8 +98,8 @@ pub extern "C" fn ardh_write_string_report(
     ensures { λ _. ⌜ now (out .exit) ≡ afterWrite (writeString (now (list .entry)) (length (now (out .entry))) start) (spellString (now (list .entry))) (now (out .entry)) start ⌝ }
 {
     match reports::write_string(list, out, start) {
-        Written::Next(n) => {
-            *next = n;
+        Written::Next(end) => {
+            *next = end;
             0
         }
         Written::NotWritten(e) => {

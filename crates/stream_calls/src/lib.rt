@@ -232,8 +232,8 @@ pub extern "C" fn ardh_write_command(
     let parameters = command.parameters;
     match commands::write_command(kept, command, list, out) {
         Written::Next(n) => {
-            let after = commands::remembered_after(kept, parameters);
-            *point = two_of(after);
+            let behind = commands::remembered_after(kept, parameters);
+            *point = two_of(behind);
             *written = n;
             0
         }
