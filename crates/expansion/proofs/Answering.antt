@@ -1,6 +1,7 @@
 -- The whole call, by what the run that only looks has found.
 use Prim.Native.Nat.{ℕ, _+_, _*_, _^_, _≤_, _<_}
 use mathlib.Core.Path.{_≡_, refl, sym, _∙_, ap}
+use mathlib.Core.Bool.{_&&_}
 use mathlib.Core.List.{List, [], _++_}
 use native.Mathlib.Omega.{arith}
 use borrow.Author.Tests.{eq-eqb, lt-leb, le-leb}
@@ -16,16 +17,17 @@ use Rattle.memory.specs.Memory.{freshMemory}
 use Rattle.refusals.specs.declared.Refusal.{Refusal}
 use Rattle.refusals.specs.declared.Refusal.the-variants.{TooShort}
 use Rattle.refusals.specs.Refusals.{numberOf}
-use Rattle.refusals.proofs.Numbers.{not-nought}
+use Rattle.refusals.proofs.Cases.{and-left, and-right}
+use Rattle.refusals.proofs.Numbers.{not-nought, met}
 use Rattle.macros.specs.declared.Finding.{Finding}
 use Rattle.macros.specs.declared.Finding.the-variants.{Found, NotFound}
-use Rattle.macros.specs.Store.{threeBytes, findRefusal, findingOf}
+use Rattle.macros.specs.Store.{threeBytes, wellFormed, lookRefusal, findRefusal, findingOf}
 use Rattle.expansion.specs.declared.Going.{Going}
 use Rattle.expansion.specs.declared.Step.{Step}
 use Rattle.expansion.specs.declared.Step.the-variants.{On, Stopped}
 use Rattle.expansion.specs.declared.Expansion.the-variants.{Expanded, NotExpanded}
 use Rattle.expansion.specs.Expansion.{Stretch, callStretch, started, Told, stepOf, reached, expansionOf, toldOf, outOf, roomRefusal, roomTold, roomOut, expandRefusal, expandTold, expandOut}
-use Rattle.expansion.specs.Running.{Ran}
+use Rattle.expansion.specs.Running.{Formed, Ran}
 use Rattle.expansion.proofs.Walking.{went-on, was-stopped}
 
 -- ---- the run
@@ -116,6 +118,13 @@ module _ (volatile saved : List ℕ) (number : ℤ) (f : SFits w32 number) (r : 
     unfound-out out = refused-out e (started volatile saved number) out (unfound-is (length out))
 
   module _ (g : r ≡ Found) where
+    pub found-formed : Formed volatile saved
+    unfolding findingOf findRefusal lookRefusal
+    found-formed =
+        let q : findRefusal threeBytes volatile saved number ≡ 0 = sym finding ∙ rw g in
+        let w = met (wellFormed threeBytes volatile && wellFormed threeBytes saved) 12 _ (λ e. omega (arith, e)) q .0 in
+        record { first = and-left (wellFormed threeBytes volatile) (wellFormed threeBytes saved) w; second = and-right (wellFormed threeBytes volatile) (wellFormed threeBytes saved) w }
+
     found-is : (room : ℕ) → expandRefusal volatile saved number room ≡ roomRefusal (started volatile saved number) room
     unfolding findingOf expandRefusal
     found-is room = let q : findRefusal threeBytes volatile saved number ≡ 0 = sym finding ∙ rw g in rw q

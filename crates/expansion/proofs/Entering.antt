@@ -15,13 +15,15 @@ use Rattle.memory.specs.declared.Remembered.{Remembered}
 use Rattle.refusals.specs.declared.Refusal.the-variants.{NotValid, TooDeep, TooManyMacros}
 use Rattle.refusals.specs.Answers.{pick}
 use Rattle.numbers.specs.Integers.{isNegative}
-use Rattle.macros.specs.Store.{threeBytes, lookedUp}
+use Rattle.macros.specs.Store.{threeBytes, lookedUp, lookedByHeaders}
+use Rattle.macros.proofs.Layouts.{three-lawful}
+use Rattle.macros.proofs.Headers.{headers-look}
 use Rattle.expansion.proofs.Bodies.{looked-up-short}
 use Rattle.expansion.specs.declared.Going.{Going}
 use Rattle.expansion.specs.declared.Step.{Step}
 use Rattle.expansion.specs.declared.Step.the-variants.{On, Stopped}
 use Rattle.expansion.specs.Expansion.{Stretch, gives, stops, opened, entering, callStretch, bodyStretch}
-use Rattle.expansion.specs.Running.{Roomy, Ran}
+use Rattle.expansion.specs.Running.{Formed, Roomy, Ran}
 use Rattle.expansion.proofs.Walking.{ran-none, ran-stops}
 
 is-negative : (find : ℤ → List ℕ) (d : ℕ) (number : ℤ) (kept : Remembered) (n : ℕ) → isNegative number ≡ true → entering find d number kept n ≡ stops 8 n kept
@@ -38,6 +40,10 @@ is-opened : (find : ℤ → List ℕ) (d : ℕ) (number : ℤ) (kept : Remembere
 unfolding entering
 is-opened find zero number kept n h z = absurd (z refl)
 is-opened find (suc d) number kept n h z = rw (h, sub-one)
+
+-- the stores are well formed, so the headers give the body that is looked up
+body-is : (volatile saved : List ℕ) (number : ℤ) → SFits w32 number → Formed volatile saved → {body : List ℕ} → body ≡ lookedByHeaders threeBytes volatile saved (toZ w32 (ofZ w32 number)) → body ≡ lookedUp threeBytes volatile saved number
+body-is volatile saved number f formed el = (rw (toZ-ofZ f) at el) ∙ headers-look threeBytes three-lawful volatile saved number (formed .first) (formed .second)
 
 -- the number comes back from the callees' contracts as the machine reads it
 module _ (volatile saved : List ℕ) (d : ℕ) (number : ℤ) (from : Going) (out : List ℕ) (f : SFits w32 number) {b : Bool} (eb : b ≡ isNegative (toZ w32 (ofZ w32 number))) where
@@ -57,12 +63,12 @@ module _ (volatile saved : List ℕ) (d : ℕ) (number : ℤ) (from : Going) (ou
         subst (λ (x : Stretch). Ran x (from .at) out out (Stopped TooDeep)) (sym (is-deep (lookedUp threeBytes volatile saved) d number (from .kept) (from .entered) (sym test ∙ t) z))
         (ran-stops TooDeep (from .at) (from .entered) (from .kept) out)
 
-    module _ (z : d ≡ 0 → ⊥) {body : List ℕ} (el : body ≡ lookedUp threeBytes volatile saved (toZ w32 (ofZ w32 number))) where
+    module _ (formed : Formed volatile saved) (z : d ≡ 0 → ⊥) {body : List ℕ} (el : body ≡ lookedByHeaders threeBytes volatile saved (toZ w32 (ofZ w32 number))) where
       found : callStretch volatile saved d number (from .kept) (from .entered) ≡ opened (callStretch volatile saved (d - 1)) body (from .kept) (from .entered)
       unfolding callStretch
       found =
           is-opened (lookedUp threeBytes volatile saved) d number (from .kept) (from .entered) (sym test ∙ t) z
-          ∙ ap (λ (l : List ℕ). opened (entering (lookedUp threeBytes volatile saved) (d - 1)) l (from .kept) (from .entered)) (sym (rw (toZ-ofZ f) at el))
+          ∙ ap (λ (l : List ℕ). opened (entering (lookedUp threeBytes volatile saved) (d - 1)) l (from .kept) (from .entered)) (sym (body-is volatile saved number f formed el))
 
       pub enter-absent : length body ≡ 0 → Ran (callStretch volatile saved d number (from .kept) (from .entered)) (from .at) out out (On from)
       enter-absent e =
@@ -82,8 +88,9 @@ module _ (volatile saved : List ℕ) (d : ℕ) (number : ℤ) (from : Going) (ou
             subst (λ (x : Stretch). Ran x (from .at) out out′ r) (sym (found ∙ q)) ran
 
 -- a macro's own place among the 1,024 pays for its body
-pub enter-roomy : (volatile saved : List ℕ) (number : ℤ) (from : Going) {body : List ℕ} → body ≡ lookedUp threeBytes volatile saved number → from .entered < 1024 → Roomy from 0 → Roomy (record { at = from .at; entered = from .entered + 1; kept = from .kept }) (length body)
-enter-roomy volatile saved number from el m r =
+pub enter-roomy : (volatile saved : List ℕ) (number : ℤ) (from : Going) → SFits w32 number → Formed volatile saved → {body : List ℕ} → body ≡ lookedByHeaders threeBytes volatile saved (toZ w32 (ofZ w32 number)) → from .entered < 1024 → Roomy from 0
+    → Roomy (record { at = from .at; entered = from .entered + 1; kept = from .kept }) (length body)
+enter-roomy volatile saved number from f formed el m r =
     let s : length (lookedUp threeBytes volatile saved number) ≤ 256 = looked-up-short volatile saved number in
-    let l = ap length el in
+    let l = ap length (body-is volatile saved number f formed el) in
     record { few = omega (arith, m); fits = omega (arith, s, l, m, r .fits) }

@@ -4,7 +4,7 @@ ghost use mathlib.Core.Path.{_≡_};
 ghost use lib.ListN.{length};
 ghost use lib.Seq.{sets};
 ghost use Rattle.expansion.specs.Expansion.{stepOf, reached, bodyStretch, callStretch, expansionOf, expandTold, expandOut, roomTold, roomOut, started};
-ghost use Rattle.expansion.specs.Running.{Roomy, Ran};
+ghost use Rattle.expansion.specs.Running.{Formed, Roomy, Ran};
 use macros::Finding;
 use memory::Remembered;
 use pieces::Piece;
@@ -62,6 +62,7 @@ fn walk<'a>(
     from: Going,
     out: &mut [u8],
 ) -> Step
+    requires { ⌜ Formed (now volatile) (now saved) ⌝ }
     requires { ⌜ Roomy from (length (now body)) ⌝ }
     ensures { λ r. ⌜ Ran (bodyStretch (now (volatile .entry)) (now (saved .entry)) depth (now (body .entry)) (from .kept) (from .entered)) (from .at) (now (out .entry)) (now (out .exit)) r ⌝ }
 {
@@ -94,7 +95,8 @@ fn walk<'a>(
     }
 }
 
-// A call of a macro: a negative number is 8, then 15, then it is looked up, then 16.
+// A call of a macro: a negative number is 8, then 15, then it is looked up, then 16. The start has seen that both stores are well formed,
+// so the headers alone are looked at.
 fn enter<'a>(
     volatile: &'a [u8],
     saved: &'a [u8],
@@ -103,6 +105,7 @@ fn enter<'a>(
     from: Going,
     out: &mut [u8],
 ) -> Step
+    requires { ⌜ Formed (now volatile) (now saved) ⌝ }
     requires { ⌜ Roomy from 0 ⌝ }
     ensures { λ r. ⌜ Ran (callStretch (now (volatile .entry)) (now (saved .entry)) depth number (from .kept) (from .entered)) (from .at) (now (out .entry)) (now (out .exit)) r ⌝ }
 {
@@ -115,7 +118,7 @@ fn enter<'a>(
     if depth == 0 {
         return Step::Stopped(Refusal::TooDeep);
     }
-    let body = macros::look_up(volatile, saved, number);
+    let body = macros::look_by_headers(volatile, saved, number);
     if body.len() == 0 {
         return Step::On(from);
     }
@@ -133,6 +136,7 @@ fn enter<'a>(
 
 // The starting macro: it has depth 1 and is the first entered.
 fn run<'a>(volatile: &'a [u8], saved: &'a [u8], number: i32, out: &mut [u8]) -> Step
+    requires { ⌜ Formed (now volatile) (now saved) ⌝ }
     ensures { λ r. ⌜ Ran (started (now (volatile .entry)) (now (saved .entry)) number) 0 (now (out .entry)) (now (out .exit)) r ⌝ }
 {
     let kept = memory::fresh();
@@ -146,6 +150,7 @@ fn run<'a>(volatile: &'a [u8], saved: &'a [u8], number: i32, out: &mut [u8]) -> 
 
 // A run that has no room to write in.
 fn look<'a>(volatile: &'a [u8], saved: &'a [u8], number: i32) -> Step
+    requires { ⌜ Formed (now volatile) (now saved) ⌝ }
     ensures { λ r. ⌜ stepOf r ≡ reached 0 (started (now (volatile .entry)) (now (saved .entry)) number) ⌝ }
 {
     let mut none = [0; 1];
@@ -154,6 +159,7 @@ fn look<'a>(volatile: &'a [u8], saved: &'a [u8], number: i32) -> Step
 
 // A macro that is there: the first trouble on the way, then 7.
 fn expand_found<'a>(volatile: &'a [u8], saved: &'a [u8], number: i32, out: &mut [u8]) -> Expansion
+    requires { ⌜ Formed (now volatile) (now saved) ⌝ }
     ensures { λ r. ⌜ expansionOf r ≡ roomTold (started (now (volatile .entry)) (now (saved .entry)) number) (length (now (out .entry))) ⌝ }
     ensures { λ r. ⌜ now (out .exit) ≡ roomOut (started (now (volatile .entry)) (now (saved .entry)) number) (now (out .entry)) ⌝ }
 {

@@ -12,7 +12,7 @@ use Rattle.expansion.proofs.walk.Reads as walk
 use Rattle.expansion.proofs.walk.Kinds as walk-kinds
 use Rattle.expansion.proofs.+enter+walk.Lts-walk as walk-lts
 use Rattle.expansion.proofs.copy.Reads as copy-reads
-use Rattle.macros.proofs.look_up.Reads as look-up-reads
+use Rattle.macros.proofs.look_by_headers.Reads as look-by-headers-reads
 use Rattle.numbers.proofs.is_negative.Reads as is-negative-reads
 use Rattle.pieces.proofs.piece_at.Reads as piece-at-reads
 use Rattle.expansion.proofs.+enter+walk.{statement}
@@ -39,8 +39,8 @@ walk-below t = and 2 walk-kinds.ps (falls 2 walk-kinds.ps _<_ μ-walk t) walk.Pr
 enter-is-negative-requires : (t : ℕ) → enter-lts.Need-is-negative-requires (
   is-negative-reads.Asked,
   is-negative-reads.Learnt,
-  look-up-reads.Asked,
-  look-up-reads.Learnt,
+  look-by-headers-reads.Asked,
+  look-by-headers-reads.Learnt,
   walk-below t,
   walk.Post,
 ) (enter-at t) enter.Post
@@ -49,8 +49,8 @@ enter-is-negative-requires t c κs = search needs
 enter-returns : (t : ℕ) → enter-lts.Need-returns (
   is-negative-reads.Asked,
   is-negative-reads.Learnt,
-  look-up-reads.Asked,
-  look-up-reads.Learnt,
+  look-by-headers-reads.Asked,
+  look-by-headers-reads.Learnt,
   walk-below t,
   walk.Post,
 ) (enter-at t) enter.Post
@@ -59,28 +59,28 @@ enter-returns t c = search (needs, enter-negative)
 enter-returns-2 : (t : ℕ) → enter-lts.Need-returns-2 (
   is-negative-reads.Asked,
   is-negative-reads.Learnt,
-  look-up-reads.Asked,
-  look-up-reads.Learnt,
+  look-by-headers-reads.Asked,
+  look-by-headers-reads.Learnt,
   walk-below t,
   walk.Post,
 ) (enter-at t) enter.Post
 enter-returns-2 t c = search (needs, enter-deep)
 
-enter-look-up-requires : (t : ℕ) → enter-lts.Need-look-up-requires (
+enter-look-by-headers-requires : (t : ℕ) → enter-lts.Need-look-by-headers-requires (
   is-negative-reads.Asked,
   is-negative-reads.Learnt,
-  look-up-reads.Asked,
-  look-up-reads.Learnt,
+  look-by-headers-reads.Asked,
+  look-by-headers-reads.Learnt,
   walk-below t,
   walk.Post,
 ) (enter-at t) enter.Post
-enter-look-up-requires t c κs = search needs
+enter-look-by-headers-requires t c κs = search needs
 
 enter-returns-3 : (t : ℕ) → enter-lts.Need-returns-3 (
   is-negative-reads.Asked,
   is-negative-reads.Learnt,
-  look-up-reads.Asked,
-  look-up-reads.Learnt,
+  look-by-headers-reads.Asked,
+  look-by-headers-reads.Learnt,
   walk-below t,
   walk.Post,
 ) (enter-at t) enter.Post
@@ -89,8 +89,8 @@ enter-returns-3 t c = search (needs, enter-absent)
 enter-returns-4 : (t : ℕ) → enter-lts.Need-returns-4 (
   is-negative-reads.Asked,
   is-negative-reads.Learnt,
-  look-up-reads.Asked,
-  look-up-reads.Learnt,
+  look-by-headers-reads.Asked,
+  look-by-headers-reads.Learnt,
   walk-below t,
   walk.Post,
 ) (enter-at t) enter.Post
@@ -99,8 +99,8 @@ enter-returns-4 t c = search (needs, enter-full)
 enter-add-more : (t : ℕ) → enter-lts.Need-add-more (
   is-negative-reads.Asked,
   is-negative-reads.Learnt,
-  look-up-reads.Asked,
-  look-up-reads.Learnt,
+  look-by-headers-reads.Asked,
+  look-by-headers-reads.Learnt,
   walk-below t,
   walk.Post,
 ) (enter-at t) enter.Post
@@ -109,8 +109,8 @@ enter-add-more t c = search needs
 enter-sub-walk : (t : ℕ) → enter-lts.Need-sub-walk (
   is-negative-reads.Asked,
   is-negative-reads.Learnt,
-  look-up-reads.Asked,
-  look-up-reads.Learnt,
+  look-by-headers-reads.Asked,
+  look-by-headers-reads.Learnt,
   walk-below t,
   walk.Post,
 ) (enter-at t) enter.Post
@@ -119,8 +119,8 @@ enter-sub-walk t c = search needs
 enter-walk-requires : (t : ℕ) → enter-lts.Need-walk-requires (
   is-negative-reads.Asked,
   is-negative-reads.Learnt,
-  look-up-reads.Asked,
-  look-up-reads.Learnt,
+  look-by-headers-reads.Asked,
+  look-by-headers-reads.Learnt,
   walk-below t,
   walk.Post,
 ) (enter-at t) enter.Post
@@ -129,8 +129,8 @@ enter-walk-requires t c κs = search (needs, enter-roomy)
 enter-same-length : (t : ℕ) → enter-lts.Need-same-length (
   is-negative-reads.Asked,
   is-negative-reads.Learnt,
-  look-up-reads.Asked,
-  look-up-reads.Learnt,
+  look-by-headers-reads.Asked,
+  look-by-headers-reads.Learnt,
   walk-below t,
   walk.Post,
 ) (enter-at t) enter.Post
@@ -139,8 +139,8 @@ enter-same-length t c = search needs
 enter-returns-5 : (t : ℕ) → enter-lts.Need-returns-5 (
   is-negative-reads.Asked,
   is-negative-reads.Learnt,
-  look-up-reads.Asked,
-  look-up-reads.Learnt,
+  look-by-headers-reads.Asked,
+  look-by-headers-reads.Learnt,
   walk-below t,
   walk.Post,
 ) (enter-at t) enter.Post
@@ -406,8 +406,8 @@ pub +enter+walk-spec : {M : Type 1} → statement M
 +enter+walk-spec = close μ-enter μ-walk (λ t. enter-lts.spec (
   is-negative-reads.Asked,
   is-negative-reads.Learnt,
-  look-up-reads.Asked,
-  look-up-reads.Learnt,
+  look-by-headers-reads.Asked,
+  look-by-headers-reads.Learnt,
   walk-below t,
   walk.Post,
 )
@@ -416,7 +416,7 @@ pub +enter+walk-spec : {M : Type 1} → statement M
     (enter-is-negative-requires t)
     (enter-returns t)
     (enter-returns-2 t)
-    (enter-look-up-requires t)
+    (enter-look-by-headers-requires t)
     (enter-returns-3 t)
     (enter-returns-4 t)
     (enter-add-more t)

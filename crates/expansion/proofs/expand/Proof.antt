@@ -1,4 +1,4 @@
-use Rattle.expansion.proofs.Answering.{unfound-told, unfound-out, found-told, found-out}
+use Rattle.expansion.proofs.Answering.{unfound-told, unfound-out, found-formed, found-told, found-out}
 use borrow.Author.Needs.{needs}
 use Rattle.expansion.proofs.expand.Statement.{statement}
 use Rattle.expansion.proofs.expand.Tie as tie
@@ -13,7 +13,7 @@ enum-told : tie.Need-enum-told
 enum-told c = search needs
 
 expand-found-requires : tie.Need-expand-found-requires
-expand-found-requires c κs = search needs
+expand-found-requires c κs = search (needs, found-formed)
 
 returns : tie.Need-returns
 returns c = search (needs, unfound-told, unfound-out)
