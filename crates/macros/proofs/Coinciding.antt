@@ -36,12 +36,12 @@ pub findings-coincide : {x y : Finding} {d : ℕ} → findingOf x ≡ d → find
 findings-coincide = coincide findingOf finding-back finding-same
 
 place-back : Placed → Place
-place-back p = pick (eqb (p .number) 0) (pick (eqb (p .store) 1) (InVolatile (p .offset) (p .length)) (InSaved (p .offset) (p .length))) (Nowhere (named (p .number)))
+place-back p = pick (eqb (p .number) 0) (pick (eqb (p .store) 1) (InVolatile (p .offset) (p .long)) (InSaved (p .offset) (p .long))) (Nowhere (named (p .number)))
 
 place-same : (r : Place) → place-back (placeOf r) ≡ r
 unfolding placeOf place-back
-place-same (InVolatile offset length) = refl
-place-same (InSaved offset length) = refl
+place-same (InVolatile offset long) = refl
+place-same (InSaved offset long) = refl
 place-same (Nowhere e) = rw (not-nought e) (ap Nowhere (named-back e))
 
 pub places-coincide : {x y : Place} {d : Placed} → placeOf x ≡ d → placeOf y ≡ d → x ≡ y

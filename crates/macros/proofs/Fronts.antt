@@ -9,7 +9,6 @@ use borrow.Author.Tests.{le-leb, lt-leb, le-ltb, lt-ltb, ltb-true, ltb-false}
 use borrow.Author.Needs.{fits-under}
 use mir.Syntax.{w64}
 use mir.Val.{Fits}
-use lib.Arith.{lt-of-le-ne}
 use lib.Dec.{leb, ltb}
 use lib.ListN.{length, getD, take, drop, length-drop}
 use lib.Seq.{getD-drop, drop-drop, take-all}
@@ -25,7 +24,7 @@ use Rattle.macros.specs.declared.Survey.the-variants.{Formed, Malformed}
 use Rattle.macros.specs.Store.{Entry, Layout, threeIn, threeBytes, sizeOf, atMost, areBody, bodyIn, isEntry, entries, below, wellFormed, hasBody}
 use Rattle.macros.specs.Fronts.{Bytes, HeaderIs, EntryIs, FrontIs, GapIs, FormedIs, SurveyIs, gapBehind}
 use Rattle.macros.proofs.Layouts.{Lawful, three-size, three-longest, three-lawful}
-use Rattle.macros.proofs.Reading.{Stands, stands, body-long, entryIn, restFrom, rest-all, rest-none, rest-one, size-cons, size-nil, keep-yes, keep-no, keep-nil, and-no}
+use Rattle.macros.proofs.Reading.{stands, body-long, entryIn, restFrom, rest-all, rest-none, rest-one, size-cons, size-nil, keep-yes, keep-no, keep-nil, and-no}
 
 -- ---- no byte above a bound
 
@@ -205,13 +204,13 @@ module _ (g : Gap) (number n to : ℕ) where
   unfolding gapBehind
   gap-low h = rw (lt-ltb n number h, lt-ltb n (number + 1) (omega (arith, h)))
 
-  pub gap-this : n ≡ number → record { at = g .at; old = to; end = to } ≡ gapBehind g number n to
+  pub gap-this : number ≤ n → n ≤ number → record { at = g .at; old = to; end = to } ≡ gapBehind g number n to
   unfolding gapBehind
-  gap-this h = rw (le-ltb n number (omega (arith, h)), lt-ltb n (number + 1) (omega (arith, h)))
+  gap-this h l = rw (le-ltb n number h, lt-ltb n (number + 1) (omega (arith, l)))
 
-  pub gap-high : number ≤ n → (n ≡ number → ⊥) → record { at = g .at; old = g .old; end = to } ≡ gapBehind g number n to
+  pub gap-high : number < n → record { at = g .at; old = g .old; end = to } ≡ gapBehind g number n to
   unfolding gapBehind
-  gap-high h d = let l : number < n = lt-of-le-ne h (λ q. d (sym q)) in rw (le-ltb n number h, le-ltb n (number + 1) (omega (arith, l)))
+  gap-high h = rw (le-ltb n number (omega (arith, h)), le-ltb n (number + 1) (omega (arith, h)))
 
 pub ruleset gaps = (gap-low, gap-this, gap-high)
 

@@ -176,23 +176,23 @@ module _ (L : Layout) (v s : List ℕ) (n : ℤ) where
 
   module _ (lawful : Lawful L) where
     -- the part of the store that is named
-    pub located-part : take (placed L v s n .length) (drop (placed L v s n .offset) (storeNamed (placed L v s n) v s)) ≡ lookedUp L v s n
+    pub located-part : take (placed L v s n .long) (drop (placed L v s n .offset) (storeNamed (placed L v s n) v s)) ≡ lookedUp L v s n
     unfolding placed
     located-part =
-        by-pick (λ (x : Placed). take (x .length) (drop (x .offset) (storeNamed x v s)) ≡ lookedUp L v s n) (eqb (findRefusal L v s n) 0) _ _
+        by-pick (λ (x : Placed). take (x .long) (drop (x .offset) (storeNamed x v s)) ≡ lookedUp L v s n) (eqb (findRefusal L v s n) 0) _ _
         (λ t.
-        by-pick (λ (x : Placed). take (x .length) (drop (x .offset) (storeNamed x v s)) ≡ lookedUp L v s n) (leb 1 (length (bodyOf (natAbs n) (entries L v)))) _ _
+        by-pick (λ (x : Placed). take (x .long) (drop (x .offset) (storeNamed x v s)) ≡ lookedUp L v s n) (leb 1 (length (bodyOf (natAbs n) (entries L v)))) _ _
         (λ u. stand L lawful (natAbs n) v .there ∙ sym (looked-some t ∙ either-first (bodyOf (natAbs n) (entries L v)) _ u))
         (λ u. stand L lawful (natAbs n) s .there ∙ sym (looked-some t ∙ either-second (bodyOf (natAbs n) (entries L v)) _ u)))
         (λ t. sym (looked-none t))
 
     -- which lies within it
-    pub located-inside : placed L v s n .offset + placed L v s n .length ≤ length (storeNamed (placed L v s n) v s)
+    pub located-inside : placed L v s n .offset + placed L v s n .long ≤ length (storeNamed (placed L v s n) v s)
     unfolding placed bodyInEither
     located-inside =
-        by-pick (λ (x : Placed). x .offset + x .length ≤ length (storeNamed x v s)) (eqb (findRefusal L v s n) 0) _ _
+        by-pick (λ (x : Placed). x .offset + x .long ≤ length (storeNamed x v s)) (eqb (findRefusal L v s n) 0) _ _
         (λ t.
-        by-pick (λ (x : Placed). x .offset + x .length ≤ length (storeNamed x v s)) (leb 1 (length (bodyOf (natAbs n) (entries L v)))) _ _
+        by-pick (λ (x : Placed). x .offset + x .long ≤ length (storeNamed x v s)) (leb 1 (length (bodyOf (natAbs n) (entries L v)))) _ _
         (λ u. body-inside L lawful (natAbs n) v (leb-true 1 _ u))
         (λ u. body-inside L lawful (natAbs n) s (leb-true 1 _ (ap (λ (b : List ℕ). leb 1 (length b)) (sym (either-second (bodyOf (natAbs n) (entries L v)) _ u)) ∙ there-is t))))
         (λ t. omega arith)

@@ -164,11 +164,11 @@ module _ (L : Layout) (v s : List ℕ) (n : ℤ) (f : SFits w32 n) (r : Place) (
   number-said : {q : Place} → r ≡ q → placeOf q .number ≡ findRefusal L v s n
   number-said e = ap (λ (x : Placed). x .number) (sym (says e)) ∙ placed-number L v s n
 
-  part-said : Lawful L → {q : Place} → r ≡ q → take (placeOf q .length) (drop (placeOf q .offset) (storeNamed (placeOf q) v s)) ≡ lookedUp L v s n
-  part-said lawful e = subst (λ (x : Placed). take (x .length) (drop (x .offset) (storeNamed x v s)) ≡ lookedUp L v s n) (says e) (located-part L v s n lawful)
+  part-said : Lawful L → {q : Place} → r ≡ q → take (placeOf q .long) (drop (placeOf q .offset) (storeNamed (placeOf q) v s)) ≡ lookedUp L v s n
+  part-said lawful e = subst (λ (x : Placed). take (x .long) (drop (x .offset) (storeNamed x v s)) ≡ lookedUp L v s n) (says e) (located-part L v s n lawful)
 
-  inside-said : Lawful L → {q : Place} → r ≡ q → placeOf q .offset + placeOf q .length ≤ length (storeNamed (placeOf q) v s)
-  inside-said lawful e = subst (λ (x : Placed). x .offset + x .length ≤ length (storeNamed x v s)) (says e) (located-inside L v s n lawful)
+  inside-said : Lawful L → {q : Place} → r ≡ q → placeOf q .offset + placeOf q .long ≤ length (storeNamed (placeOf q) v s)
+  inside-said lawful e = subst (λ (x : Placed). x .offset + x .long ≤ length (storeNamed x v s)) (says e) (located-inside L v s n lawful)
 
   module _ {from long : ℕ} where
     pub volatile-found : r ≡ InVolatile from long → findingOf Found ≡ findRefusal L v s n

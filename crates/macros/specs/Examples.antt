@@ -27,10 +27,10 @@ lookUp v s n number body = record {
 }
 
 -- where the body stands: the companion answer, the store, where it begins, its length
-abbrev locate : (volatile saved : List ℕ) → ℕ → (number store offset length : ℕ) → Row
-locate v s n number store offset length =
+abbrev locate : (volatile saved : List ℕ) → ℕ → (number store offset long : ℕ) → Row
+locate v s n number store offset long =
     let p : Placed = placed threeBytes v s (pos n) in
-    record { given = p .number ∷ p .store ∷ p .offset ∷ p .length ∷ []; paper = number ∷ store ∷ offset ∷ length ∷ [] }
+    record { given = p .number ∷ p .store ∷ p .offset ∷ p .long ∷ []; paper = number ∷ store ∷ offset ∷ long ∷ [] }
 
 abbrev five : List ℕ
 five = 0 ∷ 10 ∷ 2 ∷ 72 ∷ 105 ∷ 0 ∷ 0 ∷ 0 ∷ []

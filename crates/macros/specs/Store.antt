@@ -208,15 +208,15 @@ pub record Placed : Type 0 where
   pub number : ℕ
   pub store : ℕ
   pub offset : ℕ
-  pub length : ℕ
+  pub long : ℕ
 
 -- "The body follows" the header, which stands behind the entries below the number
 abbrev pub placedIn : Layout → (store : ℕ) → List ℕ → ℕ → Placed
-placedIn L store s n = record { number = 0; store = store; offset = sizeOf L (below n (entries L s)) + L .size; length = length (bodyOf n (entries L s)) }
+placedIn L store s n = record { number = 0; store = store; offset = sizeOf L (below n (entries L s)) + L .size; long = length (bodyOf n (entries L s)) }
 
 -- refused, the rest is 0
 abbrev pub unplaced : ℕ → Placed
-unplaced e = record { number = e; store = 0; offset = 0; length = 0 }
+unplaced e = record { number = e; store = 0; offset = 0; long = 0 }
 
 -- "part of the volatile store if it is there, otherwise [..] part of the saved store"
 unfoldable pub placed : Layout → (volatile saved : List ℕ) → ℤ → Placed
@@ -225,13 +225,14 @@ placed L volatile saved n =
     (pick (leb 1 (length (bodyOf (natAbs n) (entries L volatile)))) (placedIn L 1 volatile (natAbs n)) (placedIn L 2 saved (natAbs n)))
     (unplaced (findRefusal L volatile saved n))
 
+-- the store that it names
 abbrev pub storeNamed : Placed → (volatile saved : List ℕ) → List ℕ
 storeNamed p volatile saved = pick (eqb (p .store) 1) volatile saved
 
 -- what the answer says
 unfoldable pub placeOf : Place → Placed
-placeOf (InVolatile offset length) = record { number = 0; store = 1; offset = offset; length = length }
-placeOf (InSaved offset length) = record { number = 0; store = 2; offset = offset; length = length }
+placeOf (InVolatile offset long) = record { number = 0; store = 1; offset = offset; long = long }
+placeOf (InSaved offset long) = record { number = 0; store = 2; offset = offset; long = long }
 placeOf (Nowhere e) = unplaced (numberOf e)
 
 -- ---- looking up by the headers alone

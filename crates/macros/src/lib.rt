@@ -160,7 +160,7 @@ fn gap_behind(gap: Gap, number: usize, n: usize, to: usize) -> Gap
         };
     }
     let at = gap.at;
-    if n == number {
+    if n <= number {
         return Gap {
             at: at,
             old: to,
