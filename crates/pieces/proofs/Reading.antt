@@ -1,15 +1,20 @@
 -- A piece, by what the item's reader gave.
-use Prim.Native.Nat.{ℕ}
+use Prim.Native.Nat.{ℕ, _+_, _^_, _≤_, _<_}
 use mathlib.Core.Path.{_≡_, refl, sym, _∙_, ap}
-use mathlib.Core.Bool.{Bool, true, false}
+use mathlib.Core.Bool.{Bool, true, false, not, _&&_}
 use mathlib.Core.List.{List}
-use borrow.Author.Tests.{eq-eqb, ne-eqb}
+use native.Mathlib.Omega.{arith}
+use borrow.Author.Tests.{eq-eqb, ne-eqb, le-ltb, lt-ltb, ltb-true, not-true}
+use lib.Dec.{ltb, eqb}
+use lib.ListN.{length, getD}
 use lib.IntN.{ℤ}
 use mir.Syntax.{w32}
 use mir.Val.{SFits, toZ, ofZ}
 use mir.Facts.{toZ-ofZ}
 use Rattle.memory.specs.declared.Remembered.{Remembered}
+use Rattle.memory.specs.Memory.{inside}
 use Rattle.refusals.specs.declared.Refusal.{Refusal}
+use Rattle.refusals.proofs.Cases.{and-left, and-right}
 use Rattle.parameters.specs.declared.Parameters.{Parameters}
 use Rattle.parameters.specs.Shapes.{Value, valuesOf}
 use Rattle.commands.specs.declared.Command.{Command}
@@ -18,7 +23,7 @@ use Rattle.stream.specs.declared.Item.the-variants.{Nothing, Text, Done, Refuse
 use Rattle.stream.specs.Items.{itemOf, itemAt, toldItem}
 use Rattle.pieces.specs.declared.Piece.{Piece}
 use Rattle.pieces.specs.declared.Piece.the-variants.{End, Copied, Called, Broken}
-use Rattle.pieces.specs.Pieces.{isCall, leading, commandPiece, pieceOf, pieceAt}
+use Rattle.pieces.specs.Pieces.{isCall, leading, commandPiece, pieceOf, pieceAt, isText}
 
 -- ---- a command
 
@@ -62,3 +67,38 @@ module _ (kept : Remembered) (s : List ℕ) (start : ℕ) {r : Item} (er : itemO
   unread-broken e = said e
 
 pub ruleset readings = (none-left, text-copied, command-told, refused-broken, unread-broken)
+
+-- ---- a text byte
+
+module _ (kept : Remembered) (s : List ℕ) (start : ℕ) where
+  pub at-the-end : length s ≤ start → false ≡ isText kept s start
+  unfolding isText
+  at-the-end h = rw (le-ltb start (length s) h)
+
+  module _ (h : start < length s) where
+    pub an-escape : getD s start 0 ≡ 27 → false ≡ isText kept s start
+    unfolding isText
+    an-escape e = rw (lt-ltb start (length s) h, eq-eqb (getD s start 0) 27 e)
+
+    pub a-byte : (getD s start 0 ≡ 27 → ⊥) → {b : Bool} → b ≡ inside (kept .point) → b ≡ isText kept s start
+    unfolding isText
+    a-byte e j = rw (lt-ltb start (length s) h, ne-eqb (getD s start 0) 27 e) j
+
+  module _ {b : Bool} (eb : b ≡ isText kept s start) (t : b ≡ true) where
+    tests : (start < length s) × ((eqb (getD s start 0) 27 ≡ false) × (inside (kept .point) ≡ true))
+    unfolding isText
+    tests =
+        let e = sym eb ∙ t in
+        let more = and-right (ltb start (length s)) (not (eqb (getD s start 0) 27) && inside (kept .point)) e in (
+          ltb-true start (length s) (and-left (ltb start (length s)) (not (eqb (getD s start 0) 27) && inside (kept .point)) e),
+          (not-true (eqb (getD s start 0) 27) (and-left (not (eqb (getD s start 0) 27)) (inside (kept .point)) more), and-right (not (eqb (getD s start 0) 27)) (inside (kept .point)) more),
+        )
+
+    pub text-counts : length s < 2 ^ 64 → start + 1 < 2 ^ 64
+    text-counts h = omega (arith, h, tests .0)
+
+    pub text-piece : Copied (start + 1) kept ≡ pieceAt kept s start
+    unfolding pieceAt pieceOf toldItem itemAt
+    text-piece = rw (le-ltb (length s) start (omega (arith, tests .0)), tests .1 .1, lt-ltb start (length s) (tests .0), tests .1 .0)
+
+pub ruleset texts = (at-the-end, an-escape, a-byte)

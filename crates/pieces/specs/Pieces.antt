@@ -1,10 +1,12 @@
 -- "Expanding copies a body's items, with each KX replaced by the expansion of the macro that it names." What a body's item is to that.
 use Prim.Native.Nat.{ℕ}
-use mathlib.Core.Bool.{Bool, _&&_}
+use mathlib.Core.Bool.{Bool, not, _&&_}
 use mathlib.Core.List.{List, [], _∷_}
-use lib.Dec.{eqb}
+use lib.Dec.{ltb, eqb}
+use lib.ListN.{length, getD}
 use lib.IntN.{ℤ, pos}
 use Rattle.memory.specs.declared.Remembered.{Remembered}
+use Rattle.memory.specs.Memory.{inside}
 use Rattle.refusals.specs.Answers.{pick}
 use Rattle.parameters.specs.Shapes.{Value, number, scaled, place}
 use Rattle.commands.specs.Reading.{Told}
@@ -41,3 +43,7 @@ mostEntries = 256
 
 unfoldable pub pieceAt : Remembered → List ℕ → ℕ → Piece
 pieceAt kept body start = pieceOf kept (toldItem (itemAt kept body start mostEntries))
+
+-- a text byte that is read: "each byte but 27", from a start within the body and a point inside
+unfoldable pub isText : Remembered → List ℕ → ℕ → Bool
+isText kept body start = ltb start (length body) && (not (eqb (getD body start 0) 27) && inside (kept .point))

@@ -2,7 +2,7 @@
 // into is lent here, so that it does not stand in the frames of an expansion.
 ghost use mathlib.Core.Path.{_≡_};
 ghost use Rattle.parameters.specs.Shapes.{valuesOf};
-ghost use Rattle.pieces.specs.Pieces.{isCall, leading, commandPiece, pieceAt};
+ghost use Rattle.pieces.specs.Pieces.{isCall, leading, commandPiece, isText, pieceAt};
 use commands::Command;
 use memory::Remembered;
 use parameters::Parameters;
@@ -61,8 +61,8 @@ fn command_piece(command: Command, next: usize, after: Remembered) -> Piece
     Piece::Copied(next, after)
 }
 
-// The piece of a body that starts at `start`.
-pub fn piece_at(kept: Remembered, body: &[u8], start: usize) -> Piece
+// The piece of a body that starts at `start`, by its item.
+fn piece_of_item(kept: Remembered, body: &[u8], start: usize) -> Piece
     ensures { λ r. ⌜ r ≡ pieceAt kept (now (body .entry)) start ⌝ }
 {
     let mut list = [0; 256];
@@ -73,4 +73,29 @@ pub fn piece_at(kept: Remembered, body: &[u8], start: usize) -> Piece
         Item::Refused(_, _, _, _) => Piece::Broken,
         Item::NotRead(_, _) => Piece::Broken,
     }
+}
+
+// "Outside commands each byte but 27 is a text item": whether one starts at `start`, from a remembered point inside.
+fn is_text(kept: Remembered, body: &[u8], start: usize) -> bool
+    ensures { λ r. ⌜ r ≡ isText kept (now (body .entry)) start ⌝ }
+{
+    if start >= body.len() {
+        return false;
+    }
+    if body[start] == 27 {
+        return false;
+    }
+    let point = kept.point;
+    memory::is_inside(point)
+}
+
+// The piece of a body that starts at `start`. No list is made for a text byte.
+pub fn piece_at(kept: Remembered, body: &[u8], start: usize) -> Piece
+    ensures { λ r. ⌜ r ≡ pieceAt kept (now (body .entry)) start ⌝ }
+{
+    if is_text(kept, body, start) {
+        let next = start + 1;
+        return Piece::Copied(next, kept);
+    }
+    piece_of_item(kept, body, start)
 }

@@ -1,7 +1,7 @@
 use Rattle.pieces.proofs.Reading.{readings}
 use borrow.Author.Needs.{needs}
-use Rattle.pieces.proofs.piece_at.Statement.{statement}
-use Rattle.pieces.proofs.piece_at.Tie as tie
+use Rattle.pieces.proofs.piece_of_item.Statement.{statement}
+use Rattle.pieces.proofs.piece_of_item.Tie as tie
 
 slice-aggregate-read-item : tie.Need-slice-aggregate-read-item
 slice-aggregate-read-item c = search needs
@@ -42,8 +42,8 @@ returns-4 c = search (needs, readings)
 returns-5 : tie.Need-returns-5
 returns-5 c = search (needs, readings)
 
-pub piece-at-spec : {M : Type 1} → statement M
-piece-at-spec =
+pub piece-of-item-spec : {M : Type 1} → statement M
+piece-of-item-spec =
     tie.close
     (tie.spec
     slice-aggregate-read-item
