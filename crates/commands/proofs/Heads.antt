@@ -4,6 +4,7 @@ use mathlib.Core.Path.{_≡_, refl, sym, _∙_, ap}
 use mathlib.Core.Bool.{Bool, true, false}
 use mathlib.Core.List.{List}
 use borrow.Author.Tests.{lt-ltb, le-ltb, le-leb, lt-leb}
+use lib.Dec.{leb}
 use lib.ListN.{length}
 use lib.Seq.{sets}
 use lib.IntN.{ℤ}
@@ -11,26 +12,25 @@ use Rattle.memory.specs.declared.Remembered.{Remembered}
 use Rattle.refusals.specs.declared.Refusal.{Refusal}
 use Rattle.refusals.specs.declared.Refusal.the-variants.{BytesEnd, UnknownCommand, TooShort}
 use Rattle.refusals.specs.Refusals.{numberOf}
-use Rattle.refusals.specs.Answers.{Answer, done, refused, then}
+use Rattle.refusals.specs.Answers.{Answer, done, refused, then, pick}
 use Rattle.table.specs.declared.Kind.{Kind}
 use Rattle.table.specs.declared.Found.{Found}
 use Rattle.table.specs.declared.Found.the-variants.{Is, NoKind}
 use Rattle.table.specs.Table.{begins, kindOf}
-use Rattle.parameters.specs.declared.Entry.{Entry}
 use Rattle.parameters.specs.declared.Parameters.{Parameters}
 use Rattle.parameters.specs.declared.Run.{Run}
 use Rattle.parameters.specs.declared.Look.{Look}
 use Rattle.parameters.specs.declared.Look.the-variants as L
-use Rattle.parameters.specs.Entries.{entriesFrom}
-use Rattle.parameters.specs.Shapes.{shapeOf, valuesOf, tailOf}
-use Rattle.parameters.specs.Looking.{Parsed, parametersAt, lookOf}
+use Rattle.parameters.specs.Entries.{handed}
+use Rattle.parameters.specs.Shapes.{shapeOf}
+use Rattle.parameters.specs.Looking.{Parsed, parametersAt, lookOf, afterLook}
 use Rattle.commands.specs.declared.CommandRead.{CommandRead}
 use Rattle.commands.specs.declared.CommandRead.the-variants.{Whole, Broken}
 use Rattle.commands.specs.declared.LetterRead.{LetterRead}
 use Rattle.commands.specs.declared.LetterRead.the-variants.{Letter, NoLetter}
 use Rattle.commands.specs.declared.HeadRead.{HeadRead}
 use Rattle.commands.specs.declared.HeadRead.the-variants.{Head, NoHead}
-use Rattle.commands.specs.Reading.{letterAt, letterOf, Letters, headOf, secondAt, headAt, entryIn, Meaning, bodyAt, commandAt, Told, told, commandOf, afterEntries}
+use Rattle.commands.specs.Reading.{letterAt, letterOf, Letters, headOf, secondAt, headAt, Meaning, meaning, bodyAt, commandAt, Told, told, commandOf, afterEntries}
 
 -- ---- the letters
 
@@ -67,26 +67,31 @@ module _ (kept : Remembered) (a b : ℕ) (k : Kind) (s : List ℕ) (start room :
   unfolding bodyAt told commandOf lookOf
   body-broken g = rw (← er, g)
 
-  pub kept-broken : (l : List ℤ) {x : Refusal} {p : ℕ} → r ≡ L.Broken x p → l ≡ afterEntries (bodyAt kept a b k s start room) l
-  unfolding bodyAt afterEntries lookOf
-  kept-broken l g = rw (← er, g)
-
   module _ {ps : Parameters} {w : Run} {n : ℕ} {m : Remembered} (g : r ≡ L.Whole ps w n m) where
     pub body-short : room < w .count → commandOf (Broken TooShort start) ≡ told (bodyAt kept a b k s start room)
     unfolding bodyAt told commandOf lookOf
     body-short h = rw (← er, g, lt-leb (w .count) room h)
 
-    pub kept-short : (l : List ℤ) → room < w .count → l ≡ afterEntries (bodyAt kept a b k s start room) l
-    unfolding bodyAt afterEntries lookOf
-    kept-short l h = rw (← er, g, lt-leb (w .count) room h)
-
     pub body-whole : w .count ≤ room → commandOf (Whole (record { first = a; second = b; parameters = ps }) (w .count) n m) ≡ told (bodyAt kept a b k s start room)
     unfolding bodyAt told commandOf lookOf
     body-whole h = rw (← er, g, le-leb (w .count) room h)
 
-    pub filled-whole : (l : List ℤ) {e : Entry} {o : List ℤ} → w .count ≤ room → e ≡ entryIn (tailOf ps) → o ≡ sets l 0 (entriesFrom e m (w .count) s (w .start)) → o ≡ afterEntries (bodyAt kept a b k s start room) l
-    unfolding bodyAt afterEntries lookOf
-    filled-whole l h i j = j ∙ rw (i, ← er, g, le-leb (w .count) room h)
+-- the entries stand in the list where there is room for the whole command, and only there
+handed-over : (t : Bool) (m : Meaning) (start : ℕ) (l : List ℤ) → pick t (sets l 0 (m .entries)) l ≡ afterEntries (pick t (done m) (refused 7 start)) l
+unfolding afterEntries
+handed-over true m start l = refl
+handed-over false m start l = refl
+
+body-after : (a b : ℕ) (s : List ℕ) (start : ℕ) (l : List ℤ) (p : Answer Parsed) → afterLook s p l ≡ afterEntries (then p (λ p. pick (leb (p .count) (length l)) (done (meaning a b s p)) (refused 7 start))) l
+unfolding afterLook handed afterEntries
+body-after a b s start l (done p) = handed-over (leb (p .count) (length l)) (meaning a b s p) start l
+body-after a b s start l (refused e p) = refl
+
+pub body-entries : (kept : Remembered) (a b : ℕ) (k : Kind) (s : List ℕ) (start : ℕ) (l : List ℤ) {o : List ℤ} → o ≡ afterLook s (parametersAt kept (shapeOf k) s (start + 3)) l → o ≡ afterEntries (bodyAt kept a b k s start (length l)) l
+unfolding bodyAt
+body-entries kept a b k s start l j = j ∙ body-after a b s start l (parametersAt kept (shapeOf k) s (start + 3))
+
+pub ruleset bodies = (body-broken, body-short, body-whole, body-entries)
 
 -- ---- the whole command
 

@@ -12,12 +12,9 @@ use Rattle.table.specs.declared.Kind.{Kind}
 use Rattle.table.specs.declared.Found.{Found}
 use Rattle.table.specs.declared.Found.the-variants.{Is, NoKind}
 use Rattle.table.specs.Table.{begins, kindOf}
-use Rattle.parameters.specs.declared.Entry.{Entry}
-use Rattle.parameters.specs.declared.Entry.the-variants.{AnInteger, ACharacter}
 use Rattle.parameters.specs.declared.Parameters.{Parameters}
-use Rattle.parameters.specs.Entries.{entriesFrom}
-use Rattle.parameters.specs.Shapes.{Tail, none, counted, Value, shapeOf, valuesOf, tailOf}
-use Rattle.parameters.specs.Looking.{Parsed, parametersAt}
+use Rattle.parameters.specs.Shapes.{Tail, Value, shapeOf, valuesOf, tailOf}
+use Rattle.parameters.specs.Looking.{Parsed, parametersAt, entriesOf}
 use Rattle.commands.specs.declared.CommandRead.{CommandRead}
 use Rattle.commands.specs.declared.CommandRead.the-variants.{Whole, Broken}
 use Rattle.commands.specs.declared.LetterRead.{LetterRead}
@@ -67,13 +64,6 @@ pub record Meaning : Type 0 where
   pub entries : List ℤ
   pub next : ℕ
   pub kept : Remembered
-
-abbrev pub entryIn : Tail → Entry
-entryIn none = AnInteger
-entryIn (counted e) = e
-
-abbrev pub entriesOf : List ℕ → Parsed → List ℤ
-entriesOf s p = entriesFrom (entryIn (p .tail)) (p .kept) (p .count) s (p .start)
 
 abbrev pub meaning : ℕ → ℕ → List ℕ → Parsed → Meaning
 meaning a b s p = record {

@@ -1,7 +1,7 @@
 // A whole command: ESC, two capital letters, then its parameters.
 ghost use mathlib.Core.Path.{_≡_};
 ghost use lib.ListN.{length};
-ghost use Rattle.commands.specs.Reading.{letterOf, letterAt, headOf, secondAt, headAt, entryIn, bodyAt, commandOf, commandAt, told, afterEntries};
+ghost use Rattle.commands.specs.Reading.{letterOf, letterAt, headOf, secondAt, headAt, bodyAt, commandOf, commandAt, told, afterEntries};
 ghost use Rattle.commands.specs.Writing.{kindFor, kindNumber, isKind, isEntry, areEntries, areValues, isTail, isCommand, spellEntry, spellEntries, spellValues, afterValues, spellTail, spellCommand, writeCommand, Poured};
 ghost use Rattle.memory.specs.Memory.{inside, remember};
 ghost use Rattle.wire.specs.Sending.{sent, writtenOf, afterWrite};
@@ -90,25 +90,6 @@ fn head(s: &[u8], at: usize) -> HeadRead
     }
 }
 
-// The kind of entries that go with the parameters.
-fn entry_kind(parameters: Parameters) -> Entry
-    ensures { λ r. ⌜ r ≡ entryIn (tailOf parameters) ⌝ }
-{
-    match parameters {
-        Parameters::Text => Entry::ACharacter,
-        Parameters::NumberedText(_) => Entry::ACharacter,
-        Parameters::Array => Entry::AnInteger,
-        Parameters::NumberedArray(_) => Entry::AnInteger,
-        Parameters::Single(_) => Entry::AnInteger,
-        Parameters::Double(_, _) => Entry::AnInteger,
-        Parameters::Triple(_, _, _) => Entry::AnInteger,
-        Parameters::OnePoint(_) => Entry::AnInteger,
-        Parameters::Corners(_, _) => Entry::AnInteger,
-        Parameters::Scale(_) => Entry::AnInteger,
-        Parameters::Letters(_, _) => Entry::AnInteger,
-    }
-}
-
 // The parameters of the command whose ESC is at `start` and whose letters are known.
 fn body(
     kept: Remembered,
@@ -123,14 +104,13 @@ fn body(
     ensures { λ r. ⌜ (commandOf r ≡ told (bodyAt kept first second kind (now (s .entry)) start (length (now (list .entry))))) × (now (list .exit) ≡ afterEntries (bodyAt kept first second kind (now (s .entry)) start (length (now (list .entry)))) (now (list .entry))) ⌝ }
 {
     let from = start + 3;
-    match parameters::look_at(kept, kind, s, from) {
+    let room = list.len();
+    match parameters::look_at(kept, kind, s, from, list) {
         Look::Whole(ps, run, n, after) => {
             let count = run.count;
-            let first_entry = run.start;
-            if count > list.len() {
+            if count > room {
                 return CommandRead::Broken(Refusal::TooShort, start);
             }
-            parameters::fill(after, entry_kind(ps), count, s, first_entry, list);
             let command = Command {
                 first: first,
                 second: second,

@@ -36,9 +36,9 @@ use Rattle.parameters.specs.declared.Parameters.{Parameters}
 use Rattle.parameters.specs.declared.Parameters.the-variants.{Single, Double, Triple, OnePoint, Corners, Scale, Letters, Text, Array, NumberedText, NumberedArray}
 use Rattle.parameters.specs.Entries.{entryAt, entriesFrom, Held, runAt}
 use Rattle.parameters.specs.Shapes.{Part, single, real, point, Tail, none, counted, Shape, Value, number, scaled, place, shapeOf, valuesOf, tailOf}
-use Rattle.parameters.specs.Looking.{pairAt, Fixed, partAt, fixedAt, tailAt, Parsed, parametersAt}
+use Rattle.parameters.specs.Looking.{pairAt, Fixed, partAt, fixedAt, tailAt, Parsed, parametersAt, entryIn}
 use Rattle.commands.specs.declared.Command.{Command}
-use Rattle.commands.specs.Reading.{letterAt, secondAt, headAt, entryIn, Meaning, meaning, bodyAt, commandAt}
+use Rattle.commands.specs.Reading.{letterAt, secondAt, headAt, Meaning, meaning, bodyAt, commandAt}
 use Rattle.commands.specs.Writing.{kindFor, kindNumber, sameKind, isKind, isEntry, areEntries, isValue, areValues, isTail, isCommand, spellEntry, spellEntries, spellValue, afterValue, spellValues, afterValues, spellTail, spellParameters, spellCommand}
 
 -- what `Reads` says, taken apart

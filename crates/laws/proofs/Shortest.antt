@@ -32,9 +32,9 @@ use Rattle.parameters.specs.declared.Entry.{Entry}
 use Rattle.parameters.specs.declared.Entry.the-variants.{AnInteger, ACharacter}
 use Rattle.parameters.specs.Entries.{entryAt, asEntry, entriesFrom, Held, runAt}
 use Rattle.parameters.specs.Shapes.{Part, single, real, point, Tail, none, counted, Shape, Value, number, scaled, place, shapeOf, valuesOf, tailOf}
-use Rattle.parameters.specs.Looking.{Pair, pairAt, Fixed, partAt, fixedAt, tailAt, Parsed, parametersAt}
+use Rattle.parameters.specs.Looking.{Pair, pairAt, Fixed, partAt, fixedAt, tailAt, Parsed, parametersAt, entryIn, entriesOf}
 use Rattle.commands.specs.declared.Command.{Command}
-use Rattle.commands.specs.Reading.{letterAt, Letters, completed, secondAt, headAt, entryIn, entriesOf, Meaning, meaning, bodyAt, commandAt}
+use Rattle.commands.specs.Reading.{letterAt, Letters, completed, secondAt, headAt, Meaning, meaning, bodyAt, commandAt}
 use Rattle.commands.specs.Writing.{kindFor, kindNumber, isKind, isEntry, areEntries, isValue, areValues, isTail, isCommand, spellEntry, spellEntries, spellValue, afterValue, spellValues, afterValues, spellTail, spellParameters, spellCommand}
 use Rattle.laws.proofs.RoundTrip.{partOf, shape-is}
 

@@ -1,14 +1,18 @@
 -- Reading entries, as the code does it.
-use Prim.Native.Nat.{ℕ, _+_, _-_, _≤_, _<_}
+use Prim.Native.Nat.{ℕ, zero, suc, _+_, _-_, _≤_, _<_}
 use mathlib.Core.Path.{_≡_, refl, sym, _∙_, ap}
-use mathlib.Core.List.{List}
-use lib.ListN.{length, set}
-use lib.Seq.{sets}
+use mathlib.Core.List.{List, [], _++_}
+use native.Mathlib.Omega.{arith}
+use native.Mathlib.Numerals.{add-one}
+use borrow.Author.Tests.{le-leb, lt-leb}
+use lib.ListN.{length, getD, take, drop, set, length-set}
+use lib.Seq.{sets, sets-eq, take-at, length-take-le, length-sets, paste, paste-zero, paste-suc}
 use lib.IntN.{ℤ, pos}
 use Rattle.memory.specs.declared.Remembered.{Remembered}
 use Rattle.refusals.specs.declared.Refusal.{Refusal}
 use Rattle.refusals.specs.Refusals.{numberOf}
-use Rattle.refusals.specs.Answers.{Answer, done, refused, Read}
+use Rattle.refusals.specs.Answers.{Answer, done, refused, Read, endsAfter, allAfter}
+use Rattle.refusals.proofs.Cases.{by-then, Done, done-of, done-map, is-done, not-done}
 use Rattle.refusals.proofs.Many as many
 use Rattle.wire.specs.declared.ByteRead.{ByteRead}
 use Rattle.wire.specs.declared.ByteRead.the-variants.{Byte, NoByte}
@@ -20,12 +24,13 @@ use Rattle.numbers.specs.declared.CountRead.{CountRead}
 use Rattle.numbers.specs.declared.CountRead.the-variants.{Count, NoCount}
 use Rattle.numbers.specs.Integers.{integerOf, integerAt}
 use Rattle.numbers.specs.Counts.{countAt, countOf}
+use Rattle.numbers.proofs.Shortest.{count-shown}
 use Rattle.parameters.specs.declared.Entry.{Entry}
 use Rattle.parameters.specs.declared.Entry.the-variants.{AnInteger, ACharacter}
 use Rattle.parameters.specs.declared.EntriesEnd.{EntriesEnd}
 use Rattle.parameters.specs.declared.EntriesEnd.the-variants.{End, Cut}
 use Rattle.parameters.specs.declared.RunRead.the-variants.{Counted, Uncounted}
-use Rattle.parameters.specs.Entries.{entryAt, entriesEnd, entriesFrom, endOf, runOf, runAt}
+use Rattle.parameters.specs.Entries.{entryAt, entriesEnd, entriesFrom, endOf, runOf, runAt, handed, afterRun}
 
 -- ---- one entry
 
@@ -56,65 +61,148 @@ pub entry-none : (e : Entry) (kept : Remembered) (s : List ℕ) (at : ℕ) {r : 
 unfolding integerOf
 entry-none e kept s at q g = sym q ∙ rw g
 
--- ---- a run of them
+-- ---- so many of them
 
-module _ (e : Entry) (kept : Remembered) (k : ℕ) (s : List ℕ) (at : ℕ) {q : Answer ℕ} where
-  pub end-done : k ≤ 0 → entriesEnd e kept k s at ≡ q → endOf (End at) ≡ q
+-- what is left, read from here, ends where the whole ends and fills the list as the whole does
+pub record Reading (e : Entry) (kept : Remembered) (s : List ℕ) (at count : ℕ) (l₀ l : List ℤ) (i n : ℕ) : Type 0 where
+  pub upto : i ≤ count
+  pub filling : many.Filling (entryAt e kept s) at count l₀ l i n
+  pub rest : entriesEnd e kept (count - i) s n ≡ entriesEnd e kept count s at
+
+pub reading-none : (e : Entry) (kept : Remembered) (s : List ℕ) (at count : ℕ) (l : List ℤ) → Reading e kept s at count l l 0 at
+reading-none e kept s at count l =
+    let z : count - 0 ≡ count = omega arith in
+    record { upto = omega arith; filling = many.filling-none (entryAt e kept s) at count l; rest = rw z }
+
+module _ (e : Entry) (kept : Remembered) (s : List ℕ) (at count : ℕ) (l₀ l : List ℤ) (i n : ℕ) (f : Reading e kept s at count l₀ l i n) where
+  pub reading-end : count ≤ i → endOf (End n) ≡ entriesEnd e kept count s at
   unfolding endOf
-  end-done h j = many.passed-all (entryAt e kept s) k at h j
+  reading-end h = many.passed-all (entryAt e kept s) (count - i) n (omega arith) (f .rest)
 
-  module _ {r : IntegerRead} (f : integerOf r ≡ entryAt e kept s at) (h : 0 < k) (j : entriesEnd e kept k s at ≡ q) where
-    pub end-more : {v : ℤ} {p n : ℕ} → r ≡ Integer v p n → entriesEnd e kept (k - 1) s n ≡ q
-    end-more g = many.passed-one (entryAt e kept s) k at (entry-given e kept s at f g) h j
+  pub reading-all : count ≤ i → l ≡ sets l₀ 0 (entriesFrom e kept count s at)
+  reading-all h = many.filling-end (entryAt e kept s) at count l₀ l i n (f .filling) h
 
-    pub end-cut : {x : Refusal} {p : ℕ} → r ≡ NoInteger x p → endOf (Cut x p) ≡ q
+  module _ {r : IntegerRead} (g : integerOf r ≡ entryAt e kept s n) where
+    pub reading-more : (x : ℤ) {v : ℤ} {p m : ℕ} → i < count → r ≡ Integer v p m → x ≡ v → Reading e kept s at count l₀ (set l i x) (i + 1) m
+    reading-more x {v} {m = m} h k j =
+        let z : count - i - 1 ≡ count - (i + 1) = omega arith in
+        let one = entry-given e kept s n g k in
+        record {
+          upto = omega arith;
+          filling = rw j (many.filling-more (entryAt e kept s) at count l₀ l i n (f .filling) h one);
+          rest = rw z at (many.passed-one (entryAt e kept s) (count - i) n one (omega arith) (f .rest));
+        }
+
+    pub reading-cut : {x : Refusal} {p : ℕ} → i < count → r ≡ NoInteger x p → endOf (Cut x p) ≡ entriesEnd e kept count s at
     unfolding endOf
-    end-cut g = many.passed-none (entryAt e kept s) k at (entry-none e kept s at f g) h j
+    reading-cut h k = many.passed-none (entryAt e kept s) (count - i) n (entry-none e kept s n g k) (omega arith) (f .rest)
 
-pub ruleset ends = (end-done, end-more, end-cut)
+    pub reading-some : {x : Refusal} {p : ℕ} → r ≡ NoInteger x p → l ≡ sets l₀ 0 (entriesFrom e kept count s at)
+    reading-some k = many.filling-cut (entryAt e kept s) at count l₀ l i n (f .filling) (entry-none e kept s n g k)
+
+pub ruleset readings = (reading-none, reading-end, reading-all, reading-more, reading-cut, reading-some)
+
+-- ---- handing them over
+
+pub record Handing (es : List ℤ) (k : ℕ) (l₀ l : List ℤ) (i : ℕ) : Type 0 where
+  pub upto : i ≤ k
+  pub room : k ≤ length l₀
+  pub long : length l ≡ length l₀
+  pub front : l ≡ paste l₀ 0 es i
+
+pub no-room : (es : List ℤ) (k : ℕ) (l : List ℤ) → length l < k → l ≡ handed k (take k es) l
+unfolding handed
+no-room es k l h = rw (lt-leb k (length l) h)
+
+pub handing-none : (es : List ℤ) (k : ℕ) (l : List ℤ) → k ≤ length l → Handing es k l l 0
+handing-none es k l h = record { upto = omega arith; room = h; long = refl; front = paste-zero l 0 es }
+
+module _ (es : List ℤ) (k : ℕ) (l₀ l : List ℤ) (i : ℕ) (f : Handing es k l₀ l i) (there : k ≤ length es) where
+  pub handing-more : (d x : ℤ) → i < k → x ≡ getD es i d → Handing es k l₀ (set l i x) (i + 1)
+  handing-more d x h j =
+      let z : 0 + i ≡ i = omega arith in
+      record {
+        upto = omega arith;
+        room = f .room;
+        long = length-set l i x ∙ f .long;
+        front =
+            ap (λ (y : ℤ). set l i y) j
+            ∙ ap (λ (m : List ℤ). set m i (getD es i d)) (f .front)
+            ∙ ap (λ (n : ℕ). set (paste l₀ 0 es i) n (getD es i d)) (sym z)
+            ∙ paste-suc l₀ 0 es i d (omega (arith, f .room)) (omega (arith, there))
+            ∙ ap (λ (n : ℕ). paste l₀ 0 es n) (sym (add-one i));
+      }
+
+  pub handing-end : k ≤ i → l ≡ handed k (take k es) l₀
+  unfolding handed
+  handing-end h =
+      let z : i ≡ k = omega (arith, f .upto) in
+      let long : length (take k es) ≡ k = length-take-le k es there in
+      rw (le-leb k (length l₀) (f .room))
+      (f .front ∙ ap (λ (n : ℕ). paste l₀ 0 es n) z ∙ ap (λ (n : ℕ). take 0 l₀ ++ take k es ++ drop (0 + n) l₀) (sym long) ∙ sym (sets-eq (take k es) l₀ 0 (omega (arith, f .room, long))))
+
+pub ruleset handings = (no-room, handing-none, handing-more, handing-end)
+
+-- ---- a count and that many entries
+
+-- readings that come to their end gave as many values
+all-read : {A : Type 0} (one : ℕ → Answer (Read A)) (k at : ℕ) → Done (λ n. length (allAfter one k at) ≡ k) (endsAfter one k at)
+unfolding endsAfter allAfter
+all-read one zero at = is-done (λ n. length (allAfter one 0 at) ≡ 0) refl
+all-read one (suc k) at =
+    by-then (Done (λ n. length (allAfter one (suc k) at) ≡ suc k)) (one at) _
+    (λ r g. done-map (λ n q. rw g (ap suc q)) (endsAfter one k (r .next)) (all-read one k (r .next)))
+    (λ x p g. not-done (λ n. length (allAfter one (suc k) at) ≡ suc k) x p)
+
+-- the front of an array that they were stored in is they themselves
+front-is : (es z : List ℤ) (k : ℕ) → length es ≡ k → k ≤ length z → take k (sets z 0 es) ≡ es
+front-is es z k e h =
+    ap (λ (m : List ℤ). take k m) (sets-eq es z 0 (omega (arith, e))) ∙ take-at es (drop (0 + length es) z) k e
+
+module _ (kept : Remembered) (s : List ℕ) (at : ℕ) {c : CountRead} (ec : countOf c ≡ countAt kept s at) {k p n : ℕ} (g : c ≡ Count k p n) where
+  count-given : countAt kept s at ≡ done (record { value = k; place = p; next = n })
+  unfolding countOf
+  count-given = sym ec ∙ rw g
+
+  pub count-few : k ≤ 256
+  count-few = count-shown kept s at count-given .writable
+
+  pub count-there : (z vs : List ℤ) {es : List ℤ} → length z ≡ 256 → es ≡ sets z 0 vs → k ≤ length es
+  count-there z vs h e = rw (e, length-sets z 0 vs, h) count-few
 
 module _ (e : Entry) (kept : Remembered) (s : List ℕ) (at : ℕ) {c : CountRead} (ec : countOf c ≡ countAt kept s at) where
   pub run-no : {x : Refusal} {p : ℕ} → c ≡ NoCount x p → runOf (Uncounted x p) ≡ runAt e kept s at
   unfolding runAt runOf countOf
   run-no g = rw (← ec, g)
 
-  module _ {k p n : ℕ} (g : c ≡ Count k p n) {t : EntriesEnd} (et : endOf t ≡ entriesEnd e kept k s n) where
-    pub run-cut : {x : Refusal} {q : ℕ} → t ≡ Cut x q → runOf (Uncounted x q) ≡ runAt e kept s at
-    unfolding runAt runOf countOf endOf
-    run-cut h = rw (← ec, g, ← et, h)
+  pub kept-no : (l : List ℤ) {x : Refusal} {p : ℕ} → c ≡ NoCount x p → l ≡ afterRun e kept s (runAt e kept s at) l
+  unfolding runAt afterRun countOf
+  kept-no l g = rw (← ec, g)
 
-    pub run-whole : {m : ℕ} → t ≡ End m → runOf (Counted (record { start = n; count = k }) m) ≡ runAt e kept s at
-    unfolding runAt runOf countOf endOf
-    run-whole h = rw (← ec, g, ← et, h)
+  module _ {k p n : ℕ} (g : c ≡ Count k p n) where
+    module _ {t : EntriesEnd} (et : endOf t ≡ entriesEnd e kept k s n) where
+      pub run-cut : {x : Refusal} {q : ℕ} → t ≡ Cut x q → runOf (Uncounted x q) ≡ runAt e kept s at
+      unfolding runAt runOf countOf endOf
+      run-cut h = rw (← ec, g, ← et, h)
 
-pub ruleset runs = (run-no, run-cut, run-whole)
+      pub kept-cut : (l : List ℤ) {x : Refusal} {q : ℕ} → t ≡ Cut x q → l ≡ afterRun e kept s (runAt e kept s at) l
+      unfolding runAt afterRun countOf endOf
+      kept-cut l h = rw (← ec, g, ← et, h)
 
--- ---- filling the lent list
+      pub run-whole : {m : ℕ} → t ≡ End m → runOf (Counted (record { start = n; count = k }) m) ≡ runAt e kept s at
+      unfolding runAt runOf countOf endOf
+      run-whole h = rw (← ec, g, ← et, h)
 
-pub record Filling (e : Entry) (kept : Remembered) (s : List ℕ) (at count : ℕ) (l₀ l : List ℤ) (i pos : ℕ) : Type 0 where
-  pub state : many.Filling (entryAt e kept s) at count l₀ l i pos
-  pub long : length l ≡ length l₀
-  pub upto : i ≤ count
+      ended : {m : ℕ} → t ≡ End m → entriesEnd e kept k s n ≡ done m
+      unfolding endOf
+      ended h = sym et ∙ rw h
 
-filling-of : (e : Entry) (kept : Remembered) (s : List ℕ) (at count : ℕ) (l₀ l : List ℤ) (i n : ℕ) → many.Filling (entryAt e kept s) at count l₀ l i n → Filling e kept s at count l₀ l i n
-filling-of e kept s at count l₀ l i n f = record { state = f; long = f .long; upto = f .upto }
+      pub run-handed : (l z : List ℤ) {es o : List ℤ} {m : ℕ} → t ≡ End m → length z ≡ 256 → es ≡ sets z 0 (entriesFrom e kept k s n) → o ≡ handed k (take k es) l → o ≡ afterRun e kept s (runAt e kept s at) l
+      unfolding runAt afterRun countOf endOf
+      run-handed l z h y q j =
+          let all = entriesFrom e kept k s n in
+          let long : length all ≡ k = done-of (λ x. length (allAfter (entryAt e kept s) k n) ≡ k) (all-read (entryAt e kept s) k n) (ended h) in
+          let front = front-is all z k long (omega (arith, y, count-few kept s at ec g)) in
+          j ∙ ap (λ (w : List ℤ). handed k (take k w) l) q ∙ ap (λ (w : List ℤ). handed k w l) front ∙ rw (← ec, g, ← et, h)
 
-pub filling-none : (e : Entry) (kept : Remembered) (s : List ℕ) (at count : ℕ) (l : List ℤ) → Filling e kept s at count l l 0 at
-filling-none e kept s at count l = filling-of e kept s at count l l 0 at (many.filling-none (entryAt e kept s) at count l)
-
-module _ (e : Entry) (kept : Remembered) (s : List ℕ) (at count : ℕ) (l₀ l : List ℤ) (i n : ℕ) (f : Filling e kept s at count l₀ l i n) where
-  pub filling-end : count ≤ i → l ≡ sets l₀ 0 (entriesFrom e kept count s at)
-  filling-end h = many.filling-end (entryAt e kept s) at count l₀ l i n (f .state) h
-
-  pub filling-full : length l ≤ i → l ≡ sets l₀ 0 (entriesFrom e kept count s at)
-  filling-full h = many.filling-full (entryAt e kept s) at count l₀ l i n (f .state) h
-
-  module _ {r : IntegerRead} (g : integerOf r ≡ entryAt e kept s n) where
-    pub filling-more : (x : ℤ) {v : ℤ} {p m : ℕ} → i < count → r ≡ Integer v p m → x ≡ v → Filling e kept s at count l₀ (set l i x) (i + 1) m
-    filling-more x {v} {m = m} h k j =
-        rw j (filling-of e kept s at count l₀ (set l i v) (i + 1) m (many.filling-more (entryAt e kept s) at count l₀ l i n (f .state) h (entry-given e kept s n g k)))
-
-    pub filling-cut : {x : Refusal} {p : ℕ} → r ≡ NoInteger x p → l ≡ sets l₀ 0 (entriesFrom e kept count s at)
-    filling-cut k = many.filling-cut (entryAt e kept s) at count l₀ l i n (f .state) (entry-none e kept s n g k)
-
-pub ruleset fillings = (filling-none, filling-end, filling-full, filling-more, filling-cut)
+pub ruleset runs = (count-few, count-there, run-no, kept-no, run-cut, kept-cut, run-whole, run-handed)

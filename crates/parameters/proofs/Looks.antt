@@ -2,13 +2,17 @@
 use Prim.Native.Nat.{ℕ}
 use mathlib.Core.Path.{_≡_, refl, sym, _∙_, ap}
 use mathlib.Core.List.{List, [], _∷_, _++_}
+use native.Mathlib.Omega.{arith}
+use borrow.Author.Tests.{le-leb}
+use lib.ListN.{length}
 use lib.IntN.{ℤ}
 use Rattle.memory.specs.declared.Point.{Point}
 use Rattle.memory.specs.declared.Remembered.{Remembered}
 use Rattle.memory.specs.Memory.{remember}
 use Rattle.refusals.specs.declared.Refusal.{Refusal}
 use Rattle.refusals.specs.Refusals.{numberOf}
-use Rattle.refusals.specs.Answers.{Answer, done, refused, Read, then}
+use Rattle.refusals.specs.Answers.{Answer, done, refused, Read, then, allAfter}
+use Rattle.refusals.proofs.Cases.{by-then}
 use Rattle.numbers.specs.declared.IntegerRead.{IntegerRead}
 use Rattle.numbers.specs.declared.IntegerRead.the-variants.{Integer, NoInteger}
 use Rattle.numbers.specs.Integers.{integerOf, integerAt}
@@ -27,9 +31,9 @@ use Rattle.parameters.specs.declared.PairRead.the-variants.{Both, NotBot
 use Rattle.parameters.specs.declared.RunRead.{RunRead}
 use Rattle.parameters.specs.declared.RunRead.the-variants.{Counted, Uncounted}
 use Rattle.parameters.specs.declared.Look.the-variants.{Whole, Broken}
-use Rattle.parameters.specs.Entries.{entryAt, Held, runOf, runAt}
+use Rattle.parameters.specs.Entries.{entryAt, Held, runOf, runAt, handed, afterRun}
 use Rattle.parameters.specs.Shapes.{Part, single, point, Tail, none, counted, Shape, shapeOf, listShape, numberedShape, Value, number, listed, numbered}
-use Rattle.parameters.specs.Looking.{Pair, pairAt, pairOf, Fixed, partAt, fixedAt, tailAt, Parsed, parametersAt, lookOf}
+use Rattle.parameters.specs.Looking.{Pair, pairAt, pairOf, Fixed, partAt, fixedAt, tailAt, Parsed, parametersAt, lookOf, afterLook}
 use Rattle.parameters.proofs.Entering.{entry-given, entry-none}
 
 -- ---- two entries
@@ -208,6 +212,12 @@ unfolding lookOf
 numbered-said a AnInteger w n kept = refl
 numbered-said a ACharacter w n kept = refl
 
+-- the entries of a list behind fixed values are those of the list
+behind : (vs : List Value) (e : Entry) (kept : Remembered) (s : List ℕ) (l : List ℤ) (h : Answer Held) → afterRun e kept s h l ≡ afterLook s (then h (λ h. done (record { values = vs; tail = counted e; start = h .start; count = h .count; next = h .next; kept = kept }))) l
+unfolding afterRun afterLook
+behind vs e kept s l (done h) = refl
+behind vs e kept s l (refused x p) = refl
+
 module _ (e : Entry) (kept : Remembered) (s : List ℕ) (at : ℕ) where
   module _ {r : RunRead} (er : runOf r ≡ runAt e kept s at) where
     pub list-no : {x : Refusal} {p : ℕ} → r ≡ Uncounted x p → lookOf (Broken x p) ≡ parametersAt kept (listShape e) s at
@@ -223,18 +233,49 @@ module _ (e : Entry) (kept : Remembered) (s : List ℕ) (at : ℕ) where
     unfolding parametersAt fixedAt partAt entryAt lookOf integerOf
     number-no g = rw (← er, g)
 
-    module _ {v : ℤ} {p n : ℕ} (g : r ≡ Integer v p n) {q : RunRead} (eq : runOf q ≡ runAt e kept s n) where
-      pub numbered-no : {x : Refusal} {p₂ : ℕ} → q ≡ Uncounted x p₂ → lookOf (Broken x p₂) ≡ parametersAt kept (numberedShape e) s at
-      unfolding parametersAt fixedAt partAt entryAt tailAt lookOf integerOf runOf
-      numbered-no h = rw (← er, g, ← eq, h)
+    pub number-kept : (l : List ℤ) {x : Refusal} {p : ℕ} → r ≡ NoInteger x p → l ≡ afterLook s (parametersAt kept (numberedShape e) s at) l
+    unfolding parametersAt fixedAt partAt entryAt afterLook integerOf
+    number-kept l g = rw (← er, g)
 
-      pub numbered-is : (x : ℤ) {ps : Parameters} {w : Run} {m : ℕ} → q ≡ Counted w m → ps ≡ numbered x e → x ≡ v → lookOf (Whole ps w m kept) ≡ parametersAt kept (numberedShape e) s at
-      unfolding parametersAt fixedAt partAt entryAt tailAt integerOf runOf
-      numbered-is x {w = w} {m = m} h i j = rw (i, j, numbered-said v e w m kept, ← er, g, ← eq, h)
+    module _ {v : ℤ} {p n : ℕ} (g : r ≡ Integer v p n) where
+      pub numbered-entries : (l : List ℤ) {o : List ℤ} → o ≡ afterRun e kept s (runAt e kept s n) l → o ≡ afterLook s (parametersAt kept (numberedShape e) s at) l
+      unfolding parametersAt fixedAt partAt entryAt tailAt integerOf
+      numbered-entries l j = j ∙ behind (number AnInteger v ∷ []) e kept s l (runAt e kept s n) ∙ rw (← er, g)
 
-pub ruleset runs = (list-no, list-is, number-no, numbered-no, numbered-is)
+      module _ {q : RunRead} (eq : runOf q ≡ runAt e kept s n) where
+        pub numbered-no : {x : Refusal} {p₂ : ℕ} → q ≡ Uncounted x p₂ → lookOf (Broken x p₂) ≡ parametersAt kept (numberedShape e) s at
+        unfolding parametersAt fixedAt partAt entryAt tailAt lookOf integerOf runOf
+        numbered-no h = rw (← er, g, ← eq, h)
+
+        pub numbered-is : (x : ℤ) {ps : Parameters} {w : Run} {m : ℕ} → q ≡ Counted w m → ps ≡ numbered x e → x ≡ v → lookOf (Whole ps w m kept) ≡ parametersAt kept (numberedShape e) s at
+        unfolding parametersAt fixedAt partAt entryAt tailAt integerOf runOf
+        numbered-is x {w = w} {m = m} h i j = rw (i, j, numbered-said v e w m kept, ← er, g, ← eq, h)
+
+  pub list-entries : (l : List ℤ) {o : List ℤ} → o ≡ afterRun e kept s (runAt e kept s at) l → o ≡ afterLook s (parametersAt kept (listShape e) s at) l
+  unfolding parametersAt fixedAt tailAt
+  list-entries l j = j ∙ behind [] e kept s l (runAt e kept s at)
+
+pub ruleset runs = (list-no, list-is, list-entries, number-no, number-kept, numbered-entries, numbered-no, numbered-is)
 
 -- ---- by kind
 
 pub of-kind : (kept : Remembered) (s : List ℕ) (at : ℕ) {k j : Kind} {q : Answer Parsed} → k ≡ j → q ≡ parametersAt kept (shapeOf j) s at → q ≡ parametersAt kept (shapeOf k) s at
 of-kind kept s at e f = f ∙ ap (λ (k : Kind). parametersAt kept (shapeOf k) s at) (sym e)
+
+pub entries-of-kind : (kept : Remembered) (s : List ℕ) (at : ℕ) (l : List ℤ) {k j : Kind} {o : List ℤ} → k ≡ j → o ≡ afterLook s (parametersAt kept (shapeOf j) s at) l → o ≡ afterLook s (parametersAt kept (shapeOf k) s at) l
+entries-of-kind kept s at l e f = f ∙ ap (λ (k : Kind). afterLook s (parametersAt kept (shapeOf k) s at) l) (sym e)
+
+-- a kind without a list leaves the lent one as it is
+fixed-left : (kept : Remembered) (ps : List Part) (s : List ℕ) (at : ℕ) (l : List ℤ) → l ≡ afterLook s (parametersAt kept (record { fixed = ps; tail = none }) s at) l
+unfolding parametersAt tailAt afterLook handed allAfter
+fixed-left kept ps s at l =
+    by-then (λ a. l ≡ afterLook s a l) (fixedAt kept ps s at) _
+    (λ f e. rw (le-leb 0 (length l) (omega arith)))
+    (λ x p e. refl)
+
+pub untouched : (kept : Remembered) (s : List ℕ) (at : ℕ) (l : List ℤ) {k j : Kind} → k ≡ j → shapeOf j .tail ≡ none → l ≡ afterLook s (parametersAt kept (shapeOf k) s at) l
+untouched kept s at l {k} {j} e t =
+    let shape : shapeOf k ≡ record { fixed = shapeOf j .fixed; tail = none } = ap shapeOf e ∙ ap (λ (x : Tail). record { fixed = shapeOf j .fixed; tail = x }) t in
+    fixed-left kept (shapeOf j .fixed) s at l ∙ ap (λ (x : Shape). afterLook s (parametersAt kept x s at) l) (sym shape)
+
+pub ruleset of-kinds = (of-kind, entries-of-kind, untouched, refl)

@@ -1,10 +1,13 @@
 -- "A string is a count and that many bytes 32..127; an array is a count and that many integers."
 use Prim.Native.Nat.{ℕ}
 use mathlib.Core.List.{List}
+use lib.Dec.{leb}
+use lib.ListN.{length}
+use lib.Seq.{sets}
 use lib.IntN.{ℤ, pos}
 use Rattle.memory.specs.declared.Remembered.{Remembered}
 use Rattle.refusals.specs.Refusals.{numberOf}
-use Rattle.refusals.specs.Answers.{Answer, done, refused, Read, then, endsAfter, allAfter}
+use Rattle.refusals.specs.Answers.{Answer, done, refused, Read, then, pick, endsAfter, allAfter}
 use Rattle.wire.specs.Taking.{byteAt}
 use Rattle.numbers.specs.Integers.{integerAt}
 use Rattle.numbers.specs.Counts.{countAt}
@@ -50,3 +53,12 @@ runAt e kept s at =
     then (countAt kept s at)
     (λ c. then (entriesEnd e kept (c .value) s (c .next))
     (λ n. done (record { start = c .next; count = c .value; next = n })))
+
+-- k entries stand at the front of a lent list that has room for all of them; any other list is as it was
+unfoldable pub handed : ℕ → List ℤ → List ℤ → List ℤ
+handed k es l = pick (leb k (length l)) (sets l 0 es) l
+
+-- the lent list behind a counted one that is whole, or refused
+unfoldable pub afterRun : Entry → Remembered → List ℕ → Answer Held → List ℤ → List ℤ
+afterRun e kept s (done h) l = handed (h .count) (entriesFrom e kept (h .count) s (h .start)) l
+afterRun e kept s (refused x p) l = l

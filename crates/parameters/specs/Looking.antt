@@ -14,7 +14,7 @@ use Rattle.parameters.specs.declared.Look.{Look}
 use Rattle.parameters.specs.declared.Look.the-variants.{Whole, Broken}
 use Rattle.parameters.specs.declared.PairRead.{PairRead}
 use Rattle.parameters.specs.declared.PairRead.the-variants.{Both, NotBoth}
-use Rattle.parameters.specs.Entries.{entryAt, Held, runAt}
+use Rattle.parameters.specs.Entries.{entryAt, entriesFrom, Held, runAt, handed}
 use Rattle.parameters.specs.Shapes.{Part, single, real, point, Tail, none, counted, Shape, Value, number, scaled, place, valuesOf, tailOf}
 
 pub record Pair : Type 0 where
@@ -79,3 +79,16 @@ unfoldable pub lookOf : Look → Answer Parsed
 lookOf (Whole ps r n k) =
     done (record { values = valuesOf ps; tail = tailOf ps; start = r .start; count = r .count; next = n; kept = k })
 lookOf (Broken e p) = refused (numberOf e) p
+
+-- ---- the entries, and the lent list behind them
+
+abbrev pub entryIn : Tail → Entry
+entryIn none = AnInteger
+entryIn (counted e) = e
+
+abbrev pub entriesOf : List ℕ → Parsed → List ℤ
+entriesOf s p = entriesFrom (entryIn (p .tail)) (p .kept) (p .count) s (p .start)
+
+unfoldable pub afterLook : List ℕ → Answer Parsed → List ℤ → List ℤ
+afterLook s (done p) l = handed (p .count) (entriesOf s p) l
+afterLook s (refused e p) l = l

@@ -1,11 +1,13 @@
-// The parameters of a command, read by kind. Nothing lent is touched while looking: the entries of a string or an array are
-// passed over, and filled in once the whole command is known to be good.
+// The parameters of a command, read by kind. The entries of a string or an array are read once, into an array of their own:
+// they come last, and go to the lent list once all of them are known to be good.
 ghost use mathlib.Core.Path.{_≡_};
+ghost use Prim.Native.Nat.{_≤_};
+ghost use lib.ListN.{length, take};
 ghost use lib.Seq.{sets};
 ghost use Rattle.numbers.specs.Integers.{integerOf};
-ghost use Rattle.parameters.specs.Entries.{entryAt, entriesFrom, endOf, entriesEnd, runOf, runAt};
+ghost use Rattle.parameters.specs.Entries.{entryAt, entriesFrom, endOf, entriesEnd, runOf, runAt, handed, afterRun};
 ghost use Rattle.parameters.specs.Shapes.{shapeOf, listShape, numberedShape, listed, numbered};
-ghost use Rattle.parameters.specs.Looking.{pairOf, pairAt, lookOf, parametersAt};
+ghost use Rattle.parameters.specs.Looking.{pairOf, pairAt, lookOf, parametersAt, afterLook};
 use memory::Point;
 use memory::Remembered;
 use numbers::CountRead;
@@ -96,16 +98,26 @@ fn read_entry(kept: Remembered, entry: Entry, s: &[u8], at: usize) -> IntegerRea
     }
 }
 
-fn entries_end(kept: Remembered, entry: Entry, count: usize, s: &[u8], at: usize) -> EntriesEnd
-    ensures { λ r. ⌜ endOf r ≡ entriesEnd entry kept count (now (s .entry)) at ⌝ }
+// So many entries from `at` on, into the front of the list: where they end, or the first that is refused.
+fn read_entries(
+    kept: Remembered,
+    entry: Entry,
+    count: usize,
+    s: &[u8],
+    at: usize,
+    list: &mut [i32; 256],
+) -> EntriesEnd
+    requires { ⌜ count ≤ 256 ⌝ }
+    ensures { λ r. ⌜ (endOf r ≡ entriesEnd entry kept count (now (s .entry)) at) × (now (list .exit) ≡ sets (now (list .entry)) 0 (entriesFrom entry kept count (now (s .entry)) at)) ⌝ }
 {
-    let mut left = count;
+    let mut i = 0;
     let mut pos = at;
-    while left > 0 {
+    while i < count {
         match read_entry(kept, entry, s, pos) {
-            IntegerRead::Integer(_, _, n) => {
+            IntegerRead::Integer(v, _, n) => {
+                list[i] = v;
                 pos = n;
-                left = left - 1;
+                i = i + 1;
             }
             IntegerRead::NoInteger(e, p) => {
                 return EntriesEnd::Cut(e, p);
@@ -115,45 +127,42 @@ fn entries_end(kept: Remembered, entry: Entry, count: usize, s: &[u8], at: usize
     EntriesEnd::End(pos)
 }
 
-// A count and that many entries.
-fn run_of(kept: Remembered, entry: Entry, s: &[u8], at: usize) -> RunRead
-    ensures { λ r. ⌜ runOf r ≡ runAt entry kept (now (s .entry)) at ⌝ }
+// The first `count` entries into the front of the list, if it has room for all of them.
+fn hand_over(entries: &[i32; 256], count: usize, list: &mut [i32])
+    requires { ⌜ (count ≤ 256) × (count ≤ length (now entries)) ⌝ }
+    ensures { λ _. ⌜ now (list .exit) ≡ handed count (take count (now (entries .entry))) (now (list .entry)) ⌝ }
 {
-    match numbers::read_count(kept, s, at) {
-        CountRead::Count(count, _, start) => match entries_end(kept, entry, count, s, start) {
-            EntriesEnd::End(n) => {
-                let run = Run {
-                    start: start,
-                    count: count,
-                };
-                RunRead::Counted(run, n)
-            }
-            EntriesEnd::Cut(e, p) => RunRead::Uncounted(e, p),
-        },
-        CountRead::NoCount(e, p) => RunRead::Uncounted(e, p),
+    if count > list.len() {
+        return;
+    }
+    let mut i = 0;
+    while i < count {
+        let v = entries[i];
+        list[i] = v;
+        i = i + 1;
     }
 }
 
-// The entries from `at` on into the front of the list, as many as there are, at most `count`, and as far as it has room.
-pub fn fill(kept: Remembered, entry: Entry, count: usize, s: &[u8], at: usize, list: &mut [i32])
-    ensures { λ r. ⌜ now (list .exit) ≡ sets (now (list .entry)) 0 (entriesFrom entry kept count (now (s .entry)) at) ⌝ }
+// A count and that many entries, which go to the list if they are whole and it has room for all of them.
+fn run_of(kept: Remembered, entry: Entry, s: &[u8], at: usize, list: &mut [i32]) -> RunRead
+    ensures { λ r. ⌜ (runOf r ≡ runAt entry kept (now (s .entry)) at) × (now (list .exit) ≡ afterRun entry kept (now (s .entry)) (runAt entry kept (now (s .entry)) at) (now (list .entry))) ⌝ }
 {
-    let mut i = 0;
-    let mut pos = at;
-    while i < count {
-        if i >= list.len() {
-            return;
-        }
-        match read_entry(kept, entry, s, pos) {
-            IntegerRead::Integer(v, _, n) => {
-                list[i] = v;
-                pos = n;
-                i = i + 1;
+    match numbers::read_count(kept, s, at) {
+        CountRead::Count(count, _, start) => {
+            let mut entries = [0; 256];
+            match read_entries(kept, entry, count, s, start, &mut entries) {
+                EntriesEnd::End(n) => {
+                    hand_over(&entries, count, list);
+                    let run = Run {
+                        start: start,
+                        count: count,
+                    };
+                    RunRead::Counted(run, n)
+                }
+                EntriesEnd::Cut(e, p) => RunRead::Uncounted(e, p),
             }
-            IntegerRead::NoInteger(_, _) => {
-                return;
-            }
         }
+        CountRead::NoCount(e, p) => RunRead::Uncounted(e, p),
     }
 }
 
@@ -294,21 +303,21 @@ fn numbered_list_of(a: i32, entry: Entry) -> Parameters
 }
 
 // A string or an array.
-fn look_list(kept: Remembered, entry: Entry, s: &[u8], at: usize) -> Look
-    ensures { λ r. ⌜ lookOf r ≡ parametersAt kept (listShape entry) (now (s .entry)) at ⌝ }
+fn look_list(kept: Remembered, entry: Entry, s: &[u8], at: usize, list: &mut [i32]) -> Look
+    ensures { λ r. ⌜ (lookOf r ≡ parametersAt kept (listShape entry) (now (s .entry)) at) × (now (list .exit) ≡ afterLook (now (s .entry)) (parametersAt kept (listShape entry) (now (s .entry)) at) (now (list .entry))) ⌝ }
 {
-    match run_of(kept, entry, s, at) {
+    match run_of(kept, entry, s, at, list) {
         RunRead::Counted(run, n) => Look::Whole(list_of(entry), run, n, kept),
         RunRead::Uncounted(e, p) => Look::Broken(e, p),
     }
 }
 
 // An integer, then a string or an array.
-fn look_numbered(kept: Remembered, entry: Entry, s: &[u8], at: usize) -> Look
-    ensures { λ r. ⌜ lookOf r ≡ parametersAt kept (numberedShape entry) (now (s .entry)) at ⌝ }
+fn look_numbered(kept: Remembered, entry: Entry, s: &[u8], at: usize, list: &mut [i32]) -> Look
+    ensures { λ r. ⌜ (lookOf r ≡ parametersAt kept (numberedShape entry) (now (s .entry)) at) × (now (list .exit) ≡ afterLook (now (s .entry)) (parametersAt kept (numberedShape entry) (now (s .entry)) at) (now (list .entry))) ⌝ }
 {
     match numbers::read_integer(kept, s, at) {
-        IntegerRead::Integer(a, _, n) => match run_of(kept, entry, s, n) {
+        IntegerRead::Integer(a, _, n) => match run_of(kept, entry, s, n, list) {
             RunRead::Counted(run, m) => Look::Whole(numbered_list_of(a, entry), run, m, kept),
             RunRead::Uncounted(e, p) => Look::Broken(e, p),
         },
@@ -316,9 +325,10 @@ fn look_numbered(kept: Remembered, entry: Entry, s: &[u8], at: usize) -> Look
     }
 }
 
-// The parameters of a command of this kind, from `at` on.
-pub fn look_at(kept: Remembered, kind: Kind, s: &[u8], at: usize) -> Look
-    ensures { λ r. ⌜ lookOf r ≡ parametersAt kept (shapeOf kind) (now (s .entry)) at ⌝ }
+// The parameters of a command of this kind, from `at` on. The entries of a string or an array go to the list if all is good and
+// it has room for all of them.
+pub fn look_at(kept: Remembered, kind: Kind, s: &[u8], at: usize, list: &mut [i32]) -> Look
+    ensures { λ r. ⌜ (lookOf r ≡ parametersAt kept (shapeOf kind) (now (s .entry)) at) × (now (list .exit) ≡ afterLook (now (s .entry)) (parametersAt kept (shapeOf kind) (now (s .entry)) at) (now (list .entry))) ⌝ }
 {
     match kind {
         Kind::AnInteger => look_single(kept, s, at),
@@ -327,10 +337,10 @@ pub fn look_at(kept: Remembered, kind: Kind, s: &[u8], at: usize) -> Look
         Kind::APoint => look_point(kept, s, at),
         Kind::TwoPoints => look_corners(kept, s, at),
         Kind::AReal => look_scale(kept, s, at),
-        Kind::AString => look_list(kept, Entry::ACharacter, s, at),
-        Kind::AnArray => look_list(kept, Entry::AnInteger, s, at),
-        Kind::IntegerThenArray => look_numbered(kept, Entry::AnInteger, s, at),
-        Kind::IntegerThenString => look_numbered(kept, Entry::ACharacter, s, at),
+        Kind::AString => look_list(kept, Entry::ACharacter, s, at, list),
+        Kind::AnArray => look_list(kept, Entry::AnInteger, s, at, list),
+        Kind::IntegerThenArray => look_numbered(kept, Entry::AnInteger, s, at, list),
+        Kind::IntegerThenString => look_numbered(kept, Entry::ACharacter, s, at, list),
         Kind::TwoCharacters => look_letters(kept, s, at),
     }
 }

@@ -1,4 +1,4 @@
-use Rattle.parameters.proofs.Looks.{of-kind}
+use Rattle.parameters.proofs.Looks.{of-kinds}
 use borrow.Author.Needs.{needs}
 use Rattle.parameters.proofs.look_at.Statement.{statement}
 use Rattle.parameters.proofs.look_at.Tie as tie
@@ -70,37 +70,49 @@ look-letters-requires : tie.Need-look-letters-requires
 look-letters-requires c κs = search needs
 
 returns : tie.Need-returns
-returns c = search (needs, of-kind)
+returns c = search (needs, of-kinds)
 
 returns-2 : tie.Need-returns-2
-returns-2 c = search (needs, of-kind)
+returns-2 c = search (needs, of-kinds)
 
 returns-3 : tie.Need-returns-3
-returns-3 c = search (needs, of-kind)
+returns-3 c = search (needs, of-kinds)
 
 returns-4 : tie.Need-returns-4
-returns-4 c = search (needs, of-kind)
+returns-4 c = search (needs, of-kinds)
 
 returns-5 : tie.Need-returns-5
-returns-5 c = search (needs, of-kind)
+returns-5 c = search (needs, of-kinds)
 
 returns-6 : tie.Need-returns-6
-returns-6 c = search (needs, of-kind)
+returns-6 c = search (needs, of-kinds)
+
+same-length : tie.Need-same-length
+same-length c = search needs
 
 returns-7 : tie.Need-returns-7
-returns-7 c = search (needs, of-kind)
+returns-7 c = search (needs, of-kinds)
+
+same-length-2 : tie.Need-same-length-2
+same-length-2 c = search needs
 
 returns-8 : tie.Need-returns-8
-returns-8 c = search (needs, of-kind)
+returns-8 c = search (needs, of-kinds)
+
+same-length-3 : tie.Need-same-length-3
+same-length-3 c = search needs
 
 returns-9 : tie.Need-returns-9
-returns-9 c = search (needs, of-kind)
+returns-9 c = search (needs, of-kinds)
+
+same-length-4 : tie.Need-same-length-4
+same-length-4 c = search needs
 
 returns-10 : tie.Need-returns-10
-returns-10 c = search (needs, of-kind)
+returns-10 c = search (needs, of-kinds)
 
 returns-11 : tie.Need-returns-11
-returns-11 c = search (needs, of-kind)
+returns-11 c = search (needs, of-kinds)
 
 pub look-at-spec : {M : Type 1} → statement M
 look-at-spec =
@@ -134,8 +146,12 @@ look-at-spec =
     returns-4
     returns-5
     returns-6
+    same-length
     returns-7
+    same-length-2
     returns-8
+    same-length-3
     returns-9
+    same-length-4
     returns-10
     returns-11)

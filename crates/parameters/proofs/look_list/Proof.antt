@@ -15,8 +15,14 @@ list-of-requires c κs = search needs
 enum-known-e : tie.Need-enum-known-e
 enum-known-e c = search needs
 
+same-length : tie.Need-same-length
+same-length c = search needs
+
 returns : tie.Need-returns
 returns c = search (needs, runs)
+
+same-length-2 : tie.Need-same-length-2
+same-length-2 c = search needs
 
 returns-2 : tie.Need-returns-2
 returns-2 c = search (needs, runs)
@@ -24,4 +30,12 @@ returns-2 c = search (needs, runs)
 pub look-list-spec : {M : Type 1} → statement M
 look-list-spec =
     tie.close
-    (tie.spec run-of-requires enum-known-run list-of-requires enum-known-e returns returns-2)
+    (tie.spec
+    run-of-requires
+    enum-known-run
+    list-of-requires
+    enum-known-e
+    same-length
+    returns
+    same-length-2
+    returns-2)

@@ -24,8 +24,14 @@ enum-known-e c = search needs
 enum-known-e-2 : tie.Need-enum-known-e-2
 enum-known-e-2 c = search needs
 
+same-length : tie.Need-same-length
+same-length c = search needs
+
 returns : tie.Need-returns
 returns c = search (needs, runs)
+
+same-length-2 : tie.Need-same-length-2
+same-length-2 c = search needs
 
 returns-2 : tie.Need-returns-2
 returns-2 c = search (needs, runs)
@@ -44,6 +50,8 @@ look-numbered-spec =
     numbered-list-of-requires
     enum-known-e
     enum-known-e-2
+    same-length
     returns
+    same-length-2
     returns-2
     returns-3)

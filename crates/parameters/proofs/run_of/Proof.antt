@@ -9,17 +9,23 @@ read-count-requires c κs = search needs
 enum-known-count : tie.Need-enum-known-count
 enum-known-count c = search needs
 
-entries-end-requires : tie.Need-entries-end-requires
-entries-end-requires c κs = search needs
+read-entries-requires : tie.Need-read-entries-requires
+read-entries-requires c κs = search (needs, runs)
 
 enum-known-n : tie.Need-enum-known-n
 enum-known-n c = search needs
+
+hand-over-requires : tie.Need-hand-over-requires
+hand-over-requires c κs = search (needs, runs)
 
 enum-known-e : tie.Need-enum-known-e
 enum-known-e c = search needs
 
 enum-known-e-2 : tie.Need-enum-known-e-2
 enum-known-e-2 c = search needs
+
+same-length : tie.Need-same-length
+same-length c = search needs
 
 returns : tie.Need-returns
 returns c = search (needs, runs)
@@ -36,10 +42,12 @@ run-of-spec =
     (tie.spec
     read-count-requires
     enum-known-count
-    entries-end-requires
+    read-entries-requires
     enum-known-n
+    hand-over-requires
     enum-known-e
     enum-known-e-2
+    same-length
     returns
     returns-2
     returns-3)
