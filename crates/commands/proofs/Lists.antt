@@ -5,16 +5,16 @@ use mathlib.Core.Bool.{Bool, true, false, _&&_}
 use mathlib.Core.List.{List, [], _∷_, _++_, append-assoc}
 use native.Mathlib.Omega.{arith}
 use native.Mathlib.Numerals.{add-one}
-use borrow.Author.Tests.{le-leb, lt-leb, leb-true}
+use borrow.Author.Tests.{le-leb, leb-true}
 use lib.Dec.{leb}
-use lib.ListN.{length, getD, drop, length-append, drop-of-length-le}
-use lib.Seq.{sets, drop-cons, length-sets}
+use lib.ListN.{length, getD, take, drop, length-append, drop-of-length-le}
+use lib.Seq.{sets, sets-eq, take-append-seam, length-take-le, drop-cons, length-sets}
 use lib.IntN.{ℤ, pos}
 use Rattle.memory.specs.declared.Remembered.{Remembered}
 use Rattle.memory.specs.declared.Point.{Point}
 use Rattle.memory.specs.Memory.{inside, remember}
 use Rattle.refusals.specs.Answers.{Answer, every}
-use Rattle.refusals.specs.declared.Refusal.the-variants.{TooShort, NotValid}
+use Rattle.refusals.specs.declared.Refusal.the-variants.{NotValid}
 use Rattle.refusals.proofs.Cases.{and-left, and-right}
 use Rattle.refusals.proofs.Many.{sets-append}
 use Rattle.wire.specs.Sending.{sent, poured, writtenOf, writeAt, writeIf, afterWrite}
@@ -167,7 +167,7 @@ module _ (kept : Remembered) (c : Command) (es : List ℤ) (h : isCommand kept c
   pub command-tail : isTail (tailOf (c .parameters)) es ≡ true
   command-tail = and-right (areValues (valuesOf (c .parameters))) (isTail (tailOf (c .parameters)) es) rest₂
 
-pub command-poured : (kept : Remembered) (c : Command) (es : List ℤ) {k : Remembered} (l m o q : List ℕ) (n r : ℕ) → m ≡ sets l 0 (sent kept (27 ∷ c .first ∷ c .second ∷ [])) → Poured (spellValues kept (valuesOf (c .parameters))) 10 m o 3 n → k ≡ afterValues kept (valuesOf (c .parameters)) → Poured (spellTail k (tailOf (c .parameters)) es) 771 o q (3 + n) r → Poured (spellCommand kept c es) 1000 l q 0 (3 + n + r)
+pub command-poured : (kept : Remembered) (c : Command) (es : List ℤ) {k : Remembered} (l m o q : List ℕ) (n r : ℕ) → m ≡ sets l 0 (sent kept (27 ∷ c .first ∷ c .second ∷ [])) → Poured (spellValues kept (valuesOf (c .parameters))) 10 m o 3 n → k ≡ afterValues kept (valuesOf (c .parameters)) → Poured (spellTail k (tailOf (c .parameters)) es) 771 o q (3 + n) r → Poured (spellCommand kept c es) 784 l q 0 (3 + n + r)
 unfolding sent spellCommand spellParameters
 command-poured kept c es l m o q n r em f ek g =
     let head : List ℕ = 27 ∷ c .first ∷ c .second ∷ [] in
@@ -178,7 +178,7 @@ command-poured kept c es l m o q n r em f ek g =
     let two : Poured (head ++ w) 13 l o 0 (3 + n) = poured-both head w 3 10 13 l m o 0 3 n first f (omega arith) in
     let y : 0 + (3 + n) ≡ 3 + n = omega arith in
     let g′ : Poured t 771 o q (0 + (3 + n)) r = rw (y, ← ek) g in
-    rw (← append-assoc head w t) (poured-both (head ++ w) t 13 771 1000 l o q 0 (3 + n) r two g′ (omega arith))
+    rw (← append-assoc head w t) (poured-both (head ++ w) t 13 771 784 l o q 0 (3 + n) r two g′ (omega arith))
 
 pub ruleset commands = (command-inside, command-values, command-tail, command-poured)
 
@@ -191,21 +191,23 @@ pub not-writable : (kept : Remembered) (c : Command) (es : List ℤ) (room : ℕ
 unfolding writeIf writtenOf
 not-writable kept c es room e h = rw (← e, h)
 
-module _ (kept : Remembered) (c : Command) (es : List ℤ) {t : Bool} (e : t ≡ isCommand kept c es) (h : t ≡ true) (l o : List ℕ) {size : ℕ} (f : Poured (spellCommand kept c es) 1000 l o 0 size) where
-  pub too-short : (room : ℕ) → room < size → writtenOf (NotWritten TooShort) ≡ writeCommand kept c es room
-  unfolding writeIf writeAt writtenOf
-  too-short room k =
-      let n : 0 + length (spellCommand kept c es) ≡ size = omega (arith, f .size) in
-      rw (← e, h, n, lt-leb size room k)
-
-  pub all-written : (room : ℕ) → size ≤ room → writtenOf (Next size) ≡ writeCommand kept c es room
-  unfolding writeIf writeAt writtenOf
-  all-written room k =
-      let n : 0 + length (spellCommand kept c es) ≡ size = omega (arith, f .size) in
-      rw (← e, h, n, le-leb size room k)
+pub all-written : (kept : Remembered) (c : Command) (es : List ℤ) {t : Bool} (l o : List ℕ) {size : ℕ} (room : ℕ) → t ≡ isCommand kept c es → t ≡ true → Poured (spellCommand kept c es) 784 l o 0 size → 784 ≤ room → writtenOf (Next size) ≡ writeCommand kept c es room
+unfolding writeIf writeAt writtenOf
+all-written kept c es l o {size} room e h f k =
+    let n : 0 + length (spellCommand kept c es) ≡ size = omega (arith, f .size) in
+    rw (← e, h, n, le-leb size room (omega (arith, f .few)))
 
 pub stands-written : (w : List ℕ) (l o : List ℕ) (n k r : ℕ) → Poured w k l o 0 r → o ≡ afterWrite (writtenOf (Next n)) w l 0
 unfolding afterWrite writtenOf
 stands-written w l o n k r f = f .stand
 
-pub ruleset writings = (writable, not-writable, too-short, all-written, stands-written)
+-- what was poured where there is room for all of it, taken from there
+pub taken-back : (w l o : List ℕ) (k r : ℕ) → Poured w k l o 0 r → k ≤ length l → take r o ≡ w
+taken-back w l o k r f h =
+    let e : o ≡ w ++ drop (0 + length w) l = f .stand ∙ sets-eq w l 0 (omega (arith, f .size, f .few)) in
+    rw (f .size, e) (take-append-seam w (drop (0 + length w) l))
+
+pub front-long : (w l o : List ℕ) (k r : ℕ) → Poured w k l o 0 r → k ≤ length l → length (take r o) ≡ r
+front-long w l o k r f h = length-take-le r o (omega (arith, f .few, ap length (f .stand), length-sets l 0 w))
+
+pub ruleset writings = (writable, not-writable, all-written, stands-written, taken-back, front-long)

@@ -23,6 +23,9 @@ use wire::Written;
 // "more than 256 entries"
 const MOST_ENTRIES: usize = 256;
 
+// No command has more bytes: ESC and two letters, fixed parameters of at most 10, a count of at most 3, and 256 entries of at most 3 each.
+const MOST_BYTES: usize = 784;
+
 pub struct Command {
     pub first: u8,
     pub second: u8,
@@ -294,8 +297,8 @@ fn pour_entry(kept: Remembered, entry: Entry, v: i32, out: &mut [u8], at: usize)
     match entry {
         Entry::AnInteger => numbers::pour_integer(kept, v, out, at),
         Entry::ACharacter => {
-            let b = [characters::byte_of(v)];
-            wire::pour(kept, &b, out, at)
+            let b = characters::byte_of(v);
+            wire::pour_one(kept, b, out, at)
         }
     }
 }
@@ -433,11 +436,10 @@ pub fn remembered_after(kept: Remembered, parameters: Parameters) -> Remembered
 // All bytes of a command that may be written.
 fn pour_command(kept: Remembered, command: Command, list: &[i32], out: &mut [u8]) -> usize
     requires { ⌜ isCommand kept command (now list) ≡ true ⌝ }
-    ensures { λ r. ⌜ Poured (spellCommand kept command (now (list .entry))) 1000 (now (out .entry)) (now (out .exit)) 0 r ⌝ }
+    ensures { λ r. ⌜ Poured (spellCommand kept command (now (list .entry))) 784 (now (out .entry)) (now (out .exit)) 0 r ⌝ }
 {
     let parameters = command.parameters;
-    let head = [27, command.first, command.second];
-    wire::pour(kept, &head, out, 0);
+    wire::pour_three(kept, 27, command.first, command.second, out, 0);
     let n = pour_values(kept, parameters, out, 3);
     let next = 3 + n;
     let m = pour_tail(
@@ -455,14 +457,14 @@ pub fn write_command(kept: Remembered, command: Command, list: &[i32], out: &mut
     ensures { λ r. ⌜ (writtenOf r ≡ writeCommand kept command (now (list .entry)) (length (now (out .entry)))) × (now (out .exit) ≡ afterWrite (writtenOf r) (spellCommand kept command (now (list .entry))) (now (out .entry)) 0) ⌝ }
 {
     if is_writable(kept, command, list) {
-        // with hardly any room it only finds the length
-        let mut scratch = [0u8; 1];
-        let size = pour_command(kept, command, list, &mut scratch);
-        if size > out.len() {
-            return Written::NotWritten(Refusal::TooShort);
+        if out.len() >= MOST_BYTES {
+            let size = pour_command(kept, command, list, out);
+            return Written::Next(size);
         }
-        pour_command(kept, command, list, out);
-        return Written::Next(size);
+        // where there may be too little room, the bytes wait apart until it is known how many they are
+        let mut bytes = [0u8; MOST_BYTES];
+        let size = pour_command(kept, command, list, &mut bytes);
+        return wire::lay(&bytes[..size], out, 0);
     }
     Written::NotWritten(Refusal::NotValid)
 }

@@ -234,6 +234,24 @@ pub fn is_integer(v: i32) -> bool
     magnitude(v) <= limit_of(is_negative(v))
 }
 
+// The bytes of an integer, as far as there is room. Each byte goes to its place by itself: how many there are is asked once.
+fn pour_magnitude(kept: Remembered, mag: u32, negative: bool, out: &mut [u8], at: usize) -> usize
+    requires { ⌜ mag ≤ 32768 ⌝ }
+    ensures { λ r. ⌜ (r ≡ length (sent kept (spellOf mag negative))) × (now (out .exit) ≡ sets (now (out .entry)) at (sent kept (spellOf mag negative))) ⌝ }
+{
+    let low = low_of(mag, negative);
+    let highs = mag / 16;
+    if highs == 0 {
+        return wire::pour_one(kept, low, out, at);
+    }
+    let last = 64 + (highs % 64) as u8;
+    if highs < 64 {
+        return wire::pour_two(kept, last, low, out, at);
+    }
+    let first = 64 + (highs / 64) as u8;
+    wire::pour_three(kept, first, last, low, out, at)
+}
+
 // The bytes of an integer as far as there is room, and how many they are; of a value outside its range none.
 pub fn pour_integer(kept: Remembered, v: i32, out: &mut [u8], at: usize) -> usize
     ensures { λ r. ⌜ (r ≡ length (poured (isInteger v) (sent kept (spell v)))) × (now (out .exit) ≡ sets (now (out .entry)) at (poured (isInteger v) (sent kept (spell v)))) ⌝ }
@@ -243,10 +261,7 @@ pub fn pour_integer(kept: Remembered, v: i32, out: &mut [u8], at: usize) -> usiz
     if mag > limit_of(negative) {
         return 0;
     }
-    let w = spell_integer(mag, negative);
-    let bytes = w.bytes;
-    let len = w.len;
-    wire::pour(kept, &bytes[..len], out, at)
+    pour_magnitude(kept, mag, negative, out, at)
 }
 
 // The same for a count.
@@ -257,8 +272,5 @@ pub fn pour_count(kept: Remembered, n: usize, out: &mut [u8], at: usize) -> usiz
         return 0;
     }
     let mag = n as u32;
-    let spelling = spell_integer(mag, false);
-    let bytes = spelling.bytes;
-    let size = spelling.len;
-    wire::pour(kept, &bytes[..size], out, at)
+    pour_magnitude(kept, mag, false, out, at)
 }

@@ -1,16 +1,19 @@
 -- Laying bytes: what the loop keeps, and each way out of it.
-use Prim.Native.Nat.{ℕ, _+_, _-_, _≤_, _<_}
+use Prim.Native.Nat.{ℕ, _+_, _-_, _*_, _≤_, _<_}
 use mathlib.Core.Path.{_≡_, refl, sym, _∙_, ap}
 use mathlib.Core.Bool.{Bool, true, false}
-use mathlib.Core.List.{List, [], _∷_}
+use mathlib.Core.List.{List, [], _∷_, _++_}
 use native.Mathlib.Omega.{arith}
 use native.Mathlib.Numerals.{add-one}
 use borrow.Author.Tests.{le-leb, lt-leb}
-use lib.ListN.{length, getD, drop, set, length-set, drop-of-length-le}
+use lib.ListN.{length, getD, drop, set, length-set, length-append, drop-of-length-le}
 use lib.Seq.{sets, drop-cons}
+use borrow.Author.Needs.{fits-under}
+use mir.Syntax.{w64}
+use mir.Val.{Fits}
 use Rattle.memory.specs.declared.Remembered.{Remembered}
 use Rattle.refusals.specs.Answers.{Answer}
-use Rattle.refusals.proofs.Many.{past-end}
+use Rattle.refusals.proofs.Many.{past-end, sets-append}
 use Rattle.refusals.specs.declared.Refusal.{Refusal}
 use Rattle.refusals.specs.declared.Refusal.the-variants.{TooShort, NotValid}
 use Rattle.wire.specs.declared.Written.the-variants.{Next, NotWritten}
@@ -90,6 +93,70 @@ pub poured-full : (w out₀ out : List ℕ) (at i : ℕ) → Laying w out₀ out
 poured-full w out₀ out at i f h k = sym (past-end out (at + i) (drop i w) (omega (arith, f .long))) ∙ f .whole
 
 pub ruleset pourings = (laying-none, laying-more, laying-end, poured-past, poured-full)
+
+-- ---- byte by byte
+
+-- bytes one behind the other are sent one behind the other
+sent-append : (kept : Remembered) (v w : List ℕ) → sent kept (v ++ w) ≡ sent kept v ++ sent kept w
+unfolding sent
+sent-append kept v w = refl
+
+sent-long : (kept : Remembered) (w : List ℕ) → length (sent kept w) ≤ 2 * length w
+unfolding sent
+sent-long kept w = omega arith
+
+module _ (kept : Remembered) (b : ℕ) where
+  pub one-size : 1 ≡ length (sent kept (b ∷ []))
+  unfolding sent
+  one-size = refl
+
+  pub one-past : (l : List ℕ) (at n : ℕ) → length l ≤ at → l ≡ sets l (at + n) (sent kept (b ∷ []))
+  one-past l at n h = sym (past-end l (at + n) (sent kept (b ∷ [])) (omega arith))
+
+  pub one-full : (l : List ℕ) (at n : ℕ) → at < length l → length l - at ≤ n → l ≡ sets l (at + n) (sent kept (b ∷ []))
+  one-full l at n h k = sym (past-end l (at + n) (sent kept (b ∷ [])) (omega arith))
+
+  pub one-stands : (l : List ℕ) (at n : ℕ) → set l (at + n) b ≡ sets l (at + n) (sent kept (b ∷ []))
+  unfolding sent
+  one-stands l at n = refl
+
+  pub one-first : (l : List ℕ) (at : ℕ) {o : List ℕ} → o ≡ sets l (at + 0) (sent kept (b ∷ [])) → o ≡ sets l at (sent kept (b ∷ []))
+  one-first l at j = let z : at + 0 ≡ at = omega arith in rw z at j
+
+sum-fits : (kept : Remembered) (v w : List ℕ) {n m : ℕ} → length v + length w ≤ 8 → n ≡ length (sent kept v) → m ≡ length (sent kept w) → Fits w64 (n + m)
+sum-fits kept v w {n} {m} h e f = fits-under w64 (n + m) 17 (omega (arith, e, f, sent-long kept v, sent-long kept w)) tt
+
+pub two-fit : (kept : Remembered) (a b : ℕ) {n m : ℕ} → n ≡ length (sent kept (a ∷ [])) → m ≡ length (sent kept (b ∷ [])) → Fits w64 (n + m)
+two-fit kept a b = sum-fits kept (a ∷ []) (b ∷ []) (omega arith)
+
+pub three-fit : (kept : Remembered) (a b d : ℕ) {n m : ℕ} → n ≡ length (sent kept (a ∷ b ∷ [])) → m ≡ length (sent kept (d ∷ [])) → Fits w64 (n + m)
+three-fit kept a b d = sum-fits kept (a ∷ b ∷ []) (d ∷ []) (omega arith)
+
+-- one more byte behind those of v
+more-size : (kept : Remembered) (v : List ℕ) (b : ℕ) {n m : ℕ} → n ≡ length (sent kept v) → m ≡ length (sent kept (b ∷ [])) → n + m ≡ length (sent kept (v ++ (b ∷ [])))
+more-size kept v b e f = rw (e, f) (sym (ap length (sent-append kept v (b ∷ [])) ∙ length-append (sent kept v) (sent kept (b ∷ []))))
+
+more-stands : (kept : Remembered) (v : List ℕ) (b : ℕ) (l : List ℕ) (at : ℕ) {n : ℕ} {m o : List ℕ} → n ≡ length (sent kept v) → m ≡ sets l at (sent kept v) → o ≡ sets m (at + n) (sent kept (b ∷ [])) → o ≡ sets l at (sent kept (v ++ (b ∷ [])))
+more-stands kept v b l at {n} {m} {o} e f g =
+    g ∙ rw (f, e) (sets-append (sent kept v) (sent kept (b ∷ [])) l at) ∙ ap (λ (x : List ℕ). sets l at x) (sym (sent-append kept v (b ∷ [])))
+
+pub two-size : (kept : Remembered) (a b : ℕ) {n m : ℕ} → n ≡ length (sent kept (a ∷ [])) → m ≡ length (sent kept (b ∷ [])) → n + m ≡ length (sent kept (a ∷ b ∷ []))
+two-size kept a b = more-size kept (a ∷ []) b
+
+pub two-stand : (kept : Remembered) (a b : ℕ) (l : List ℕ) (at : ℕ) {n : ℕ} {m o : List ℕ} → n ≡ length (sent kept (a ∷ [])) → m ≡ sets l at (sent kept (a ∷ [])) → o ≡ sets m (at + n) (sent kept (b ∷ [])) → o ≡ sets l at (sent kept (a ∷ b ∷ []))
+two-stand kept a b = more-stands kept (a ∷ []) b
+
+pub three-size : (kept : Remembered) (a b d : ℕ) {n m : ℕ} → n ≡ length (sent kept (a ∷ b ∷ [])) → m ≡ length (sent kept (d ∷ [])) → n + m ≡ length (sent kept (a ∷ b ∷ d ∷ []))
+three-size kept a b d = more-size kept (a ∷ b ∷ []) d
+
+pub three-stand : (kept : Remembered) (a b d : ℕ) (l : List ℕ) (at : ℕ) {n : ℕ} {m o : List ℕ} → n ≡ length (sent kept (a ∷ b ∷ [])) → m ≡ sets l at (sent kept (a ∷ b ∷ [])) → o ≡ sets m (at + n) (sent kept (d ∷ [])) → o ≡ sets l at (sent kept (a ∷ b ∷ d ∷ []))
+three-stand kept a b d = more-stands kept (a ∷ b ∷ []) d
+
+pub ruleset ones = (one-size, one-past, one-full, one-stands, one-first)
+
+pub ruleset more = (two-fit, three-fit, two-size, two-stand, three-size, three-stand)
+
+-- ---- what is inside its range
 
 pub not-poured : (w : List ℕ) {ok : Bool} → ok ≡ false → [] ≡ poured ok w
 unfolding poured

@@ -1,6 +1,7 @@
 // A parameter's bytes on the wire: the one place where they are taken, and the one place where they are sent.
 ghost use mathlib.Core.Path.{_≡_};
-ghost use Prim.Native.Nat.{_<_};
+ghost use Prim.Native.Nat.{_<_, _+_};
+ghost use mathlib.Core.List.{[], _∷_};
 ghost use lib.ListN.{length};
 ghost use lib.Seq.{sets};
 ghost use Rattle.wire.specs.Taking.{byteAt, pairAt, byteOf};
@@ -113,4 +114,44 @@ pub fn pour(kept: Remembered, w: &[u8], out: &mut [u8], at: usize) -> usize
         i = i + 1;
     }
     size
+}
+
+// One byte of a parameter, as it is sent, behind the `n` bytes from `at` on, where there is room. It goes by value: bytes that are
+// stored only to be read again are slow to fetch.
+fn pour_behind(kept: Remembered, n: usize, b: u8, out: &mut [u8], at: usize) -> usize
+    ensures { λ r. ⌜ (r ≡ length (sent kept (b ∷ []))) × (now (out .exit) ≡ sets (now (out .entry)) (at + n) (sent kept (b ∷ []))) ⌝ }
+{
+    let room = out.len();
+    if at >= room {
+        return 1;
+    }
+    if n >= room - at {
+        return 1;
+    }
+    let to = at + n;
+    out[to] = b;
+    1
+}
+
+// One, two and three bytes of a parameter, poured as `pour` does.
+pub fn pour_one(kept: Remembered, a: u8, out: &mut [u8], at: usize) -> usize
+    ensures { λ r. ⌜ (r ≡ length (sent kept (a ∷ []))) × (now (out .exit) ≡ sets (now (out .entry)) at (sent kept (a ∷ []))) ⌝ }
+{
+    pour_behind(kept, 0, a, out, at)
+}
+
+pub fn pour_two(kept: Remembered, a: u8, b: u8, out: &mut [u8], at: usize) -> usize
+    ensures { λ r. ⌜ (r ≡ length (sent kept (a ∷ b ∷ []))) × (now (out .exit) ≡ sets (now (out .entry)) at (sent kept (a ∷ b ∷ []))) ⌝ }
+{
+    let n = pour_one(kept, a, out, at);
+    let m = pour_behind(kept, n, b, out, at);
+    n + m
+}
+
+pub fn pour_three(kept: Remembered, a: u8, b: u8, d: u8, out: &mut [u8], at: usize) -> usize
+    ensures { λ r. ⌜ (r ≡ length (sent kept (a ∷ b ∷ d ∷ []))) × (now (out .exit) ≡ sets (now (out .entry)) at (sent kept (a ∷ b ∷ d ∷ []))) ⌝ }
+{
+    let n = pour_two(kept, a, b, out, at);
+    let m = pour_behind(kept, n, d, out, at);
+    n + m
 }

@@ -3,11 +3,8 @@ use borrow.Author.Needs.{needs}
 use Rattle.commands.proofs.pour_command.Statement.{statement}
 use Rattle.commands.proofs.pour_command.Tie as tie
 
-slice-aggregate-pour : tie.Need-slice-aggregate-pour
-slice-aggregate-pour c = search needs
-
-pour-requires : tie.Need-pour-requires
-pour-requires c κs = search needs
+pour-three-requires : tie.Need-pour-three-requires
+pour-three-requires c κs = search needs
 
 pour-values-requires : tie.Need-pour-values-requires
 pour-values-requires c κs = search (needs, commands)
@@ -34,8 +31,7 @@ pub pour-command-spec : {M : Type 1} → statement M
 pour-command-spec =
     tie.close
     (tie.spec
-    slice-aggregate-pour
-    pour-requires
+    pour-three-requires
     pour-values-requires
     add-next
     remembered-after-requires

@@ -15,11 +15,8 @@ enum-told-2 c = search needs
 byte-of-requires : tie.Need-byte-of-requires
 byte-of-requires c κs = search needs
 
-slice-aggregate-pour : tie.Need-slice-aggregate-pour
-slice-aggregate-pour c = search needs
-
-pour-requires : tie.Need-pour-requires
-pour-requires c κs = search needs
+pour-one-requires : tie.Need-pour-one-requires
+pour-one-requires c κs = search needs
 
 same-length : tie.Need-same-length
 same-length c = search needs
@@ -41,8 +38,7 @@ pour-entry-spec =
     pour-integer-requires
     enum-told-2
     byte-of-requires
-    slice-aggregate-pour
-    pour-requires
+    pour-one-requires
     same-length
     returns
     same-length-2

@@ -1,4 +1,3 @@
-use lib.Seq.{length-take-le}
 use Rattle.wire.proofs.Laying.{pours}
 use Rattle.numbers.proofs.Writing.{integers, under-limit}
 use borrow.Author.Needs.{needs}
@@ -17,17 +16,8 @@ limit-of-requires c κs = search needs
 returns : tie.Need-returns
 returns c = search (needs, pours, integers)
 
-spell-integer-requires : tie.Need-spell-integer-requires
-spell-integer-requires c κs = search (needs, under-limit)
-
-array-share-prefix-bytes : tie.Need-array-share-prefix-bytes
-array-share-prefix-bytes c = search needs
-
-slice-aggregate-pour : tie.Need-slice-aggregate-pour
-slice-aggregate-pour c = search (needs, length-take-le)
-
-pour-requires : tie.Need-pour-requires
-pour-requires c κs = search needs
+pour-magnitude-requires : tie.Need-pour-magnitude-requires
+pour-magnitude-requires c κs = search (needs, under-limit)
 
 same-length : tie.Need-same-length
 same-length c = search needs
@@ -43,9 +33,6 @@ pour-integer-spec =
     magnitude-requires
     limit-of-requires
     returns
-    spell-integer-requires
-    array-share-prefix-bytes
-    slice-aggregate-pour
-    pour-requires
+    pour-magnitude-requires
     same-length
     returns-2)
