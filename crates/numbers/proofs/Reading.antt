@@ -42,8 +42,6 @@ module _ (h b p n : ℕ) where
   unfolding integerOf
   low-over l r = rw (le-ltb b 48 l, lt-leb (h * 16 + b % 16) 32767 r)
 
-pub ruleset lows = (low-minus, low-plus, low-under, low-over)
-
 -- ---- one byte of an integer
 
 module _ (kept : Remembered) (s : List ℕ) (at : ℕ) {r : Read ℕ} (e : byteAt kept s at ≡ done r) where
@@ -86,8 +84,6 @@ module _ (kept : Remembered) (s : List ℕ) (at : ℕ) {r : ByteRead} (e : byteO
   unfolding integerOf
   no-step k h g = sym (no-byte kept s at k h (none-given kept s at e g))
 
-pub ruleset steps = (low-step, second-step, first-step, third-step, no-step)
-
 -- ---- a count
 
 module _ (most : ℕ) {r : IntegerRead} where
@@ -114,8 +110,6 @@ module _ (most : ℕ) {r : IntegerRead} where
       pub count-over : most < m → countOf (NoCount CountOutside p) ≡ countIn most (integerOf r)
       unfolding countIn countOf integerOf
       count-over h = rw (g, sign t, ← size, lt-leb m most h)
-
-pub ruleset counts = (count-no, count-minus, count-is, count-over)
 
 pub counted : (kept : Remembered) (s : List ℕ) (at : ℕ) {i : Answer (Read ℤ)} {q : Answer (Read ℕ)} → i ≡ integerAt kept s at → q ≡ countIn 256 i → q ≡ countAt kept s at
 counted kept s at e j = rw (← e) j

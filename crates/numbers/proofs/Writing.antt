@@ -35,5 +35,3 @@ module _ (v : ℤ) (f : SFits w32 v) {m : ℕ} {t : Bool} (et : t ≡ isNegative
 
   pub integer-tested : {k : ℕ} → k ≡ limit t → leb m k ≡ isInteger v
   integer-tested ek = rw (← size-is, ← sign-is, ← ek)
-
-pub ruleset integers = (not-integer, an-integer, integer-spelled)

@@ -1,4 +1,4 @@
-use Rattle.numbers.proofs.Reading.{counts}
+use Rattle.numbers.proofs.Reading.{count-no, count-minus, count-is, count-over}
 use borrow.Author.Needs.{needs}
 use Rattle.numbers.proofs.as_count.Statement.{statement}
 use Rattle.numbers.proofs.as_count.Tie as tie
@@ -10,7 +10,7 @@ is-negative-requires : tie.Need-is-negative-requires
 is-negative-requires c κs = search needs
 
 returns : tie.Need-returns
-returns c = search (needs, counts)
+returns c = search (needs, count-minus)
 
 magnitude-requires : tie.Need-magnitude-requires
 magnitude-requires c κs = search needs
@@ -19,16 +19,16 @@ cast-m : tie.Need-cast-m
 cast-m c = search needs
 
 returns-2 : tie.Need-returns-2
-returns-2 c = search (needs, counts)
+returns-2 c = search (needs, count-is)
 
 enum-known-read-2 : tie.Need-enum-known-read-2
 enum-known-read-2 c = search needs
 
 returns-3 : tie.Need-returns-3
-returns-3 c = search (needs, counts)
+returns-3 c = search (needs, count-over)
 
 returns-4 : tie.Need-returns-4
-returns-4 c = search (needs, counts)
+returns-4 c = search (needs, count-no)
 
 pub as-count-spec : {M : Type 1} → statement M
 as-count-spec =

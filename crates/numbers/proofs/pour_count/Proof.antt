@@ -1,11 +1,11 @@
 use Rattle.refusals.proofs.Rules.{tests}
-use Rattle.wire.proofs.Laying.{pours}
+use Rattle.wire.proofs.Laying.{pours-size, pours-stand, none-size, none-stand, sent-same}
 use borrow.Author.Needs.{needs}
 use Rattle.numbers.proofs.pour_count.Statement.{statement}
 use Rattle.numbers.proofs.pour_count.Tie as tie
 
 returns : tie.Need-returns
-returns c = search (tests, pours)
+returns c = search (tests, none-size, none-stand)
 
 cast-mag : tie.Need-cast-mag
 cast-mag c = search needs
@@ -17,7 +17,7 @@ same-length : tie.Need-same-length
 same-length c = search needs
 
 returns-2 : tie.Need-returns-2
-returns-2 c = search (tests, pours)
+returns-2 c = search (tests, pours-size, pours-stand, sent-same)
 
 pub pour-count-spec : {M : Type 1} → statement M
 pour-count-spec =

@@ -1,5 +1,5 @@
-use Rattle.wire.proofs.Laying.{pours}
-use Rattle.numbers.proofs.Writing.{integers, under-limit}
+use Rattle.wire.proofs.Laying.{pours-size, pours-stand, none-size, none-stand, sent-same}
+use Rattle.numbers.proofs.Writing.{not-integer, an-integer, integer-spelled, under-limit}
 use borrow.Author.Needs.{needs}
 use Rattle.numbers.proofs.pour_integer.Statement.{statement}
 use Rattle.numbers.proofs.pour_integer.Tie as tie
@@ -14,7 +14,7 @@ limit-of-requires : tie.Need-limit-of-requires
 limit-of-requires c κs = search needs
 
 returns : tie.Need-returns
-returns c = search (needs, pours, integers)
+returns c = search (needs, none-size, none-stand, not-integer)
 
 pour-magnitude-requires : tie.Need-pour-magnitude-requires
 pour-magnitude-requires c κs = search (needs, under-limit)
@@ -23,7 +23,7 @@ same-length : tie.Need-same-length
 same-length c = search needs
 
 returns-2 : tie.Need-returns-2
-returns-2 c = search (needs, pours, integers)
+returns-2 c = search (needs, pours-size, pours-stand, sent-same, an-integer, integer-spelled)
 
 pub pour-integer-spec : {M : Type 1} → statement M
 pour-integer-spec =

@@ -1,4 +1,4 @@
-use Rattle.numbers.proofs.Spelling.{spellings}
+use Rattle.numbers.proofs.Spelling.{spell-one, spell-two, spell-three}
 use borrow.Author.Needs.{needs}
 use Rattle.numbers.proofs.spell_integer.Statement.{statement}
 use Rattle.numbers.proofs.spell_integer.Tie as tie
@@ -7,7 +7,7 @@ low-of-requires : tie.Need-low-of-requires
 low-of-requires c κs = search needs
 
 returns : tie.Need-returns
-returns c = search (needs, spellings)
+returns c = search (needs, spell-one)
 
 cast-last : tie.Need-cast-last
 cast-last c = search needs
@@ -16,7 +16,7 @@ add-last : tie.Need-add-last
 add-last c = search needs
 
 returns-2 : tie.Need-returns-2
-returns-2 c = search (needs, spellings)
+returns-2 c = search (needs, spell-two)
 
 cast-first : tie.Need-cast-first
 cast-first c = search needs
@@ -25,7 +25,7 @@ add-first : tie.Need-add-first
 add-first c = search needs
 
 returns-3 : tie.Need-returns-3
-returns-3 c = search (needs, spellings)
+returns-3 c = search (needs, spell-three)
 
 pub spell-integer-spec : {M : Type 1} → statement M
 spell-integer-spec =

@@ -1,6 +1,6 @@
 use lib.Seq.{length-take-le}
-use Rattle.wire.proofs.Laying.{writings}
-use Rattle.numbers.proofs.Writing.{integers, under-limit}
+use Rattle.wire.proofs.Laying.{outside, accepted, standing, none-changed, sent-same}
+use Rattle.numbers.proofs.Writing.{not-integer, an-integer, integer-spelled, under-limit}
 use borrow.Author.Needs.{needs}
 use Rattle.numbers.proofs.write_integer.Statement.{statement}
 use Rattle.numbers.proofs.write_integer.Tie as tie
@@ -15,7 +15,7 @@ limit-of-requires : tie.Need-limit-of-requires
 limit-of-requires c κs = search needs
 
 returns : tie.Need-returns
-returns c = search (needs, writings, integers)
+returns c = search (needs, outside, none-changed, not-integer)
 
 spell-integer-requires : tie.Need-spell-integer-requires
 spell-integer-requires c κs = search (needs, under-limit)
@@ -33,7 +33,7 @@ same-length : tie.Need-same-length
 same-length c = search needs
 
 returns-2 : tie.Need-returns-2
-returns-2 c = search (needs, writings, integers)
+returns-2 c = search (needs, accepted, standing, sent-same, an-integer, integer-spelled)
 
 pub write-integer-spec : {M : Type 1} → statement M
 write-integer-spec =
