@@ -23,5 +23,3 @@ five-narrow n = rw (five n) (record { fits = omega arith })
 
 pub two-narrow : (n : ℕ) → Fits w8 (bitAnd n 3)
 two-narrow n = rw (two n) (record { fits = omega arith })
-
-pub ruleset masks = (five, two, five-wide, two-wide, five-narrow, two-narrow)

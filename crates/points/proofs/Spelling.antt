@@ -25,8 +25,6 @@ module _ (w : Spelling) (t : Bool) (b : ℕ) (h : w .len < length (w .bytes)) wh
       let z : length (set (w .bytes) (w .len) b) ≡ length (w .bytes) = length-set (w .bytes) (w .len) b in
       rw e (record { same = rw (add-one (w .len)) (take-suc-set (w .bytes) (w .len) b h); within = omega arith })
 
-pub ruleset bytes = (omitted, added)
-
 -- the five parts in their order
 pub five-parts : (a b : PointBytes) {one two three four five : List ℕ} {x y : Bool}
     → one ≡ part (eqb (a .hiy) (b .hiy)) (b .hiy)
@@ -47,5 +45,3 @@ both-tested p q eu ev et e = rw (← eu, ← ev, ← et) e
 
 pub point-spelled : (p q : Point) {a b : PointBytes} {w : List ℕ} → a ≡ bytesOf p → b ≡ bytesOf q → w ≡ spellBytes a b → w ≡ spellPoint p q
 point-spelled p q ea eb ew = ew ∙ rw (ea, eb)
-
-pub ruleset points = (both-tested, point-spelled)

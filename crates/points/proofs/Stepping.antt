@@ -43,8 +43,6 @@ pub not-allowed : (p : ℕ) → pointOf (NoPoint ByteNotAllowed p) ≡ refused 3
 unfolding pointOf
 not-allowed p = refl
 
-pub ruleset kinds = (kind-hi, kind-lo, kind-upper, kind-none, not-allowed)
-
 -- ---- the bytes of a point, and the point of its bytes
 
 pub laid-out : (p : Point) {a b d e : ℕ} → a ≡ p .y % 4 → b ≡ p .x % 4 → d ≡ p .y / 4 % 32 → e ≡ p .x / 4 % 32 → record { hiy = 32 + p .y / 128; extra = 96 + a * 4 % 256 + b; loy = 96 + d; hix = 32 + p .x / 128; lox = 64 + e } ≡ bytesOf p
@@ -84,5 +82,3 @@ module _ (kept : Remembered) (s : List ℕ) (at : ℕ) {t : Bool} (e : t ≡ ins
   pub last-outside : t ≡ false → pointOf (NoPoint NotValid 0) ≡ pointAt kept s at
   unfolding pointAt pointOf
   last-outside g = rw (← e, g)
-
-pub ruleset starts = (tested, from-last, last-outside)

@@ -1,5 +1,5 @@
 use Rattle.points.specs.Reading.{afterHiY}
-use Rattle.points.proofs.Stepping.{kinds}
+use Rattle.points.proofs.Stepping.{kind-hi, kind-lo, kind-upper, kind-none, not-allowed}
 use borrow.Author.Needs.{needs}
 use Rattle.points.proofs.after_hi_y.Statement.{statement}
 use Rattle.points.proofs.after_hi_y.Tie as tie
@@ -12,14 +12,14 @@ enum-known-v c = search needs
 
 returns : tie.Need-returns
 unfolding afterHiY
-returns c = search (needs, kinds)
+returns c = search (needs, kind-hi, not-allowed)
 
 ends-requires : tie.Need-ends-requires
 ends-requires c κs = search needs
 
 returns-2 : tie.Need-returns-2
 unfolding afterHiY
-returns-2 c = search (needs, kinds)
+returns-2 c = search (needs, kind-lo)
 
 after-upper-requires : tie.Need-after-upper-requires
 after-upper-requires c κs = search needs
@@ -29,11 +29,11 @@ enum-known-e c = search needs
 
 returns-3 : tie.Need-returns-3
 unfolding afterHiY
-returns-3 c = search (needs, kinds)
+returns-3 c = search (needs, kind-upper)
 
 returns-4 : tie.Need-returns-4
 unfolding afterHiY
-returns-4 c = search (needs, kinds)
+returns-4 c = search (needs, kind-none)
 
 pub after-hi-y-spec : {M : Type 1} → statement M
 after-hi-y-spec =

@@ -1,5 +1,5 @@
 use Rattle.points.specs.Reading.{afterUpper}
-use Rattle.points.proofs.Stepping.{kinds}
+use Rattle.points.proofs.Stepping.{kind-hi, kind-lo, kind-upper, kind-none}
 use borrow.Author.Needs.{needs}
 use Rattle.points.proofs.after_upper.Statement.{statement}
 use Rattle.points.proofs.after_upper.Tie as tie
@@ -15,14 +15,14 @@ last-requires c κs = search needs
 
 returns : tie.Need-returns
 unfolding afterUpper
-returns c = search (needs, kinds)
+returns c = search (needs, kind-hi)
 
 ends-requires : tie.Need-ends-requires
 ends-requires c κs = search needs
 
 returns-2 : tie.Need-returns-2
 unfolding afterUpper
-returns-2 c = search (needs, kinds)
+returns-2 c = search (needs, kind-lo)
 
 after-lo-y-requires : tie.Need-after-lo-y-requires
 after-lo-y-requires c κs = search needs
@@ -32,11 +32,11 @@ enum-known-e c = search needs
 
 returns-3 : tie.Need-returns-3
 unfolding afterUpper
-returns-3 c = search (needs, kinds)
+returns-3 c = search (needs, kind-upper)
 
 returns-4 : tie.Need-returns-4
 unfolding afterUpper
-returns-4 c = search (needs, kinds)
+returns-4 c = search (needs, kind-none)
 
 pub after-upper-spec : {M : Type 1} → statement M
 after-upper-spec =

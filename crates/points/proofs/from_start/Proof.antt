@@ -1,5 +1,5 @@
 use Rattle.points.specs.Reading.{pointFrom}
-use Rattle.points.proofs.Stepping.{kinds}
+use Rattle.points.proofs.Stepping.{kind-hi, kind-lo, kind-upper, kind-none}
 use borrow.Author.Needs.{needs}
 use Rattle.points.proofs.from_start.Statement.{statement}
 use Rattle.points.proofs.from_start.Tie as tie
@@ -15,14 +15,14 @@ after-hi-y-requires c κs = search needs
 
 returns : tie.Need-returns
 unfolding pointFrom
-returns c = search (needs, kinds)
+returns c = search (needs, kind-hi)
 
 ends-requires : tie.Need-ends-requires
 ends-requires c κs = search needs
 
 returns-2 : tie.Need-returns-2
 unfolding pointFrom
-returns-2 c = search (needs, kinds)
+returns-2 c = search (needs, kind-lo)
 
 after-upper-requires : tie.Need-after-upper-requires
 after-upper-requires c κs = search needs
@@ -32,11 +32,11 @@ enum-known-e c = search needs
 
 returns-3 : tie.Need-returns-3
 unfolding pointFrom
-returns-3 c = search (needs, kinds)
+returns-3 c = search (needs, kind-upper)
 
 returns-4 : tie.Need-returns-4
 unfolding pointFrom
-returns-4 c = search (needs, kinds)
+returns-4 c = search (needs, kind-none)
 
 pub from-start-spec : {M : Type 1} → statement M
 from-start-spec =
