@@ -52,8 +52,6 @@ filling-more s at count l₀ l i x f h e =
 pub filling-end : (s : List ℕ) (at count : ℕ) (l₀ l : List ℤ) (i : ℕ) → Filling s at count l₀ l i → count ≤ i → l ≡ sets l₀ 0 (entriesAt count s at)
 filling-end s at count l₀ l i f h = let z : count - i ≡ 0 = omega arith in rw z at (f .whole)
 
-pub ruleset fillings = (filling-none, filling-more, filling-end)
-
 -- ---- entries into bytes
 
 pub record Emptying (list : List ℤ) (out₀ out : List ℕ) (at i : ℕ) : Type 0 where
@@ -88,5 +86,3 @@ emptying-more list out₀ out at i v {b} f h eb ev =
 
 pub emptying-end : (list : List ℤ) (out₀ out : List ℕ) (at i : ℕ) → Emptying list out₀ out at i → length list ≤ i → out ≡ sets out₀ at (bytesOf list)
 emptying-end list out₀ out at i f h = let d : drop i list ≡ [] = drop-of-length-le list h in rw d at (f .whole)
-
-pub ruleset emptyings = (emptying-none, emptying-more, emptying-end)

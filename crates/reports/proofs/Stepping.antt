@@ -70,8 +70,6 @@ module _ (least most : ℕ) (s : List ℕ) (at : ℕ) {r : ByteRead} (e : byteOf
   pub at-most : {b p n : ℕ} → r ≡ Byte b p n → b ≤ most
   at-most g = stood-of least most s at (given g) .high
 
-pub ruleset bounds = (at-least, at-most)
-
 -- ---- an integer report
 
 module _ (s : List ℕ) (at : ℕ) {a : ByteRead} (ea : byteOf a ≡ within 32 95 s at) where
@@ -92,8 +90,6 @@ module _ (s : List ℕ) (at : ℕ) {a : ByteRead} (ea : byteOf a ≡ within 32 9
       pub report-is : (x : ℤ) {y : ℤ} {v₃ p₃ n₃ : ℕ} → c ≡ Byte v₃ p₃ n₃ → y ≡ reportValue v v₂ v₃ → x ≡ y → integerOf (Integer x p₃ n₃) ≡ reportFrom s at
       unfolding reportFrom byteOf integerOf
       report-is x g j i = rw (i, j, ← ea, ga, ← eb, gb, ← ec, g)
-
-pub ruleset reports = (first-no, second-no, low-no, report-is)
 
 pub start-past : (s : List ℕ) (at : ℕ) → length s < at → integerOf (NoInteger NotValid 0) ≡ reportAt s at
 unfolding reportAt integerOf
@@ -117,8 +113,6 @@ module _ (k : ℕ) (s : List ℕ) (at : ℕ) {q : Answer ℕ} where
     pub run-broken : {x : Refusal} {p : ℕ} → r ≡ NoByte x p → endOf (Broken x p) ≡ q
     unfolding byteOf endOf
     run-broken g = passed-none (within 32 127 s) k at (sym e ∙ rw g) h j
-
-pub ruleset runs = (run-done, run-more, run-broken)
 
 -- where a run ends, and that it stays within
 Ends : List ℕ → ℕ → ℕ → ℕ → Type 0
@@ -216,5 +210,3 @@ module _ (s : List ℕ) (at : ℕ) {i : Answer (Read ℤ)} (c : CountRead) (ei :
 pub string-kept : (e : Refusal) (p : ℕ) (s : List ℕ) (at : ℕ) (l : List ℤ) → l ≡ afterString (stringOf (NoString e p)) s at l
 unfolding afterString stringOf
 string-kept e p s at l = refl
-
-pub ruleset strings = (string-no, string-broken, string-short, string-held, run-fits, string-stands, string-kept)

@@ -35,8 +35,6 @@ module _ (v : ℤ) (f : SFits w32 v) {m : ℕ} (em : m ≡ natAbs (toZ w32 (ofZ 
   pub report-spelled : {t : Bool} {w : List ℕ} → t ≡ isNegative (toZ w32 (ofZ w32 v)) → w ≡ spellReportOf m t → w ≡ spellReport v
   report-spelled {t} et e = let q : t ≡ isNegative v = rw (toZ-ofZ f) at et in e ∙ rw (size, q)
 
-pub ruleset integers = (not-report, a-report, report-spelled)
-
 -- ---- a string
 
 module _ (vs : List ℤ) where
@@ -85,5 +83,3 @@ module _ (vs : List ℤ) (l : List ℕ) (at : ℕ) (r : Written) {w o : List ℕ
   pub string-stands : (n : ℕ) {q : List ℕ} → q ≡ sets o (at + 3) (bytesOf vs) → q ≡ afterWrite (writtenOf (Next n)) (spellString vs) l at
   unfolding writtenOf afterWrite spellString
   string-stands n k = k ∙ ap (λ (x : List ℕ). sets x (at + 3) (bytesOf vs)) laid ∙ sets-append (spellReportOf (length vs) false) (bytesOf vs) l at
-
-pub ruleset strings = (too-long, no-characters, a-string, all-characters, string-past, string-short, string-done, string-stands)

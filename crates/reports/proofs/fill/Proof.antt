@@ -1,6 +1,6 @@
 use borrow.Author.Needs.{needs}
 use Prim.Native.Nat.{_-_}
-use Rattle.reports.proofs.Filling.{Filling, fillings}
+use Rattle.reports.proofs.Filling.{Filling, filling-none, filling-more, filling-end}
 use Rattle.reports.proofs.fill.Statement.{statement}
 use Rattle.reports.proofs.fill.Tie as tie
 
@@ -11,7 +11,7 @@ abbrev μ-loop : tie.MeasureT-loop
 μ-loop s at count list₀ i₀ list i = count - i
 
 loop-holds : tie.Need-loop-holds Inv-loop μ-loop
-loop-holds c = search (needs, fillings)
+loop-holds c = search (needs, filling-none)
 
 add-from : tie.Need-add-from Inv-loop μ-loop
 add-from c = search needs
@@ -35,13 +35,13 @@ loop-less : tie.Need-loop-less Inv-loop μ-loop
 loop-less c = search needs
 
 loop-again : tie.Need-loop-again Inv-loop μ-loop
-loop-again c = search (needs, fillings)
+loop-again c = search (needs, filling-more)
 
 same-length : tie.Need-same-length Inv-loop μ-loop
-same-length c = search (needs, fillings)
+same-length c = search (needs, filling-end)
 
 returns : tie.Need-returns Inv-loop μ-loop
-returns c = search (needs, fillings)
+returns c = search (needs, filling-end)
 
 pub fill-spec : {M : Type 1} → statement M
 fill-spec =

@@ -1,4 +1,4 @@
-use Rattle.reports.proofs.Stepping.{reports, bounds}
+use Rattle.reports.proofs.Stepping.{first-no, second-no, low-no, report-is, at-least, at-most}
 use borrow.Author.Needs.{needs}
 use Rattle.reports.proofs.integer_from.Statement.{statement}
 use Rattle.reports.proofs.integer_from.Tie as tie
@@ -22,7 +22,7 @@ enum-known-low : tie.Need-enum-known-low
 enum-known-low c = search needs
 
 value-of-requires : tie.Need-value-of-requires
-value-of-requires c κs = search (needs, reports, bounds)
+value-of-requires c κs = search (needs, at-least, at-most)
 
 enum-known-e : tie.Need-enum-known-e
 enum-known-e c = search needs
@@ -34,16 +34,16 @@ enum-known-e-3 : tie.Need-enum-known-e-3
 enum-known-e-3 c = search needs
 
 returns : tie.Need-returns
-returns c = search (needs, reports, bounds)
+returns c = search (needs, report-is)
 
 returns-2 : tie.Need-returns-2
-returns-2 c = search (needs, reports, bounds)
+returns-2 c = search (needs, low-no)
 
 returns-3 : tie.Need-returns-3
-returns-3 c = search (needs, reports, bounds)
+returns-3 c = search (needs, second-no)
 
 returns-4 : tie.Need-returns-4
-returns-4 c = search (needs, reports, bounds)
+returns-4 c = search (needs, first-no)
 
 pub integer-from-spec : {M : Type 1} → statement M
 integer-from-spec =

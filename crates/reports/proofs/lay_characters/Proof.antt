@@ -1,7 +1,7 @@
 use borrow.Author.Needs.{needs}
 use Prim.Native.Nat.{_-_}
 use lib.ListN.{length}
-use Rattle.reports.proofs.Filling.{Emptying, emptyings}
+use Rattle.reports.proofs.Filling.{Emptying, emptying-none, emptying-more, emptying-end}
 use Rattle.reports.proofs.lay_characters.Statement.{statement}
 use Rattle.reports.proofs.lay_characters.Tie as tie
 
@@ -12,7 +12,7 @@ abbrev μ-loop : tie.MeasureT-loop
 μ-loop list out₀ at i₀ out i = length list - i
 
 loop-holds : tie.Need-loop-holds Inv-loop μ-loop
-loop-holds c = search (needs, emptyings)
+loop-holds c = search (needs, emptying-none)
 
 add-to : tie.Need-add-to Inv-loop μ-loop
 add-to c = search needs
@@ -36,13 +36,13 @@ loop-less : tie.Need-loop-less Inv-loop μ-loop
 loop-less c = search needs
 
 loop-again : tie.Need-loop-again Inv-loop μ-loop
-loop-again c = search (needs, emptyings)
+loop-again c = search (needs, emptying-more)
 
 same-length : tie.Need-same-length Inv-loop μ-loop
-same-length c = search (needs, emptyings)
+same-length c = search (needs, emptying-end)
 
 returns : tie.Need-returns Inv-loop μ-loop
-returns c = search (needs, emptyings)
+returns c = search (needs, emptying-end)
 
 pub lay-characters-spec : {M : Type 1} → statement M
 lay-characters-spec =

@@ -4,7 +4,7 @@ use Rattle.reports.proofs.read_integer.Statement.{statement}
 use Rattle.reports.proofs.read_integer.Tie as tie
 
 returns : tie.Need-returns
-returns c = search (needs, start-past, start-inside)
+returns c = search (needs, start-past)
 
 integer-from-requires : tie.Need-integer-from-requires
 integer-from-requires c κs = search needs

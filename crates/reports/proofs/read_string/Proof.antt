@@ -1,4 +1,4 @@
-use Rattle.reports.proofs.Stepping.{strings}
+use Rattle.reports.proofs.Stepping.{string-no, string-broken, string-short, string-held, run-fits, string-stands, string-kept}
 use borrow.Author.Needs.{needs}
 use Rattle.reports.proofs.read_string.Statement.{statement}
 use Rattle.reports.proofs.read_string.Tie as tie
@@ -19,10 +19,10 @@ enum-known-end : tie.Need-enum-known-end
 enum-known-end c = search needs
 
 returns : tie.Need-returns
-returns c = search (needs, strings)
+returns c = search (needs, string-short, string-kept)
 
 fill-requires : tie.Need-fill-requires
-fill-requires c κs = search (needs, strings)
+fill-requires c κs = search (needs, run-fits)
 
 enum-known-e : tie.Need-enum-known-e
 enum-known-e c = search needs
@@ -34,13 +34,13 @@ same-length : tie.Need-same-length
 same-length c = search needs
 
 returns-2 : tie.Need-returns-2
-returns-2 c = search (needs, strings)
+returns-2 c = search (needs, string-held, string-stands)
 
 returns-3 : tie.Need-returns-3
-returns-3 c = search (needs, strings)
+returns-3 c = search (needs, string-broken, string-kept)
 
 returns-4 : tie.Need-returns-4
-returns-4 c = search (needs, strings)
+returns-4 c = search (needs, string-no, string-kept)
 
 pub read-string-spec : {M : Type 1} → statement M
 read-string-spec =

@@ -1,5 +1,5 @@
-use Rattle.wire.proofs.Laying.{writings}
-use Rattle.reports.proofs.Writings.{integers}
+use Rattle.wire.proofs.Laying.{outside, accepted, standing, none-changed}
+use Rattle.reports.proofs.Writings.{not-report, a-report, report-spelled}
 use borrow.Author.Needs.{needs}
 use Rattle.reports.proofs.write_integer.Statement.{statement}
 use Rattle.reports.proofs.write_integer.Tie as tie
@@ -8,7 +8,7 @@ magnitude-requires : tie.Need-magnitude-requires
 magnitude-requires c κs = search needs
 
 returns : tie.Need-returns
-returns c = search (needs, writings, integers)
+returns c = search (needs, outside, none-changed, not-report)
 
 is-negative-requires : tie.Need-is-negative-requires
 is-negative-requires c κs = search needs
@@ -26,7 +26,7 @@ same-length : tie.Need-same-length
 same-length c = search needs
 
 returns-2 : tie.Need-returns-2
-returns-2 c = search (needs, writings, integers)
+returns-2 c = search (needs, accepted, standing, a-report, report-spelled)
 
 pub write-integer-spec : {M : Type 1} → statement M
 write-integer-spec =
