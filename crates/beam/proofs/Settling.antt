@@ -47,8 +47,6 @@ module _ (w h : ℕ) (beam : Beam) {s : Bool} (es : s ≡ onSurface w h (beam .r
       unfolding isValid
       with-bits e j = rw (yes-of es t, yes-of ev u, ne-eqb (beam .bits) 0 e) j
 
-pub ruleset validities = (off-surface, out-of-viewport, without-bits, with-bits)
-
 -- ---- 11, 8, 8
 
 module _ (w h : ℕ) (old : Beam) (allowed : Bool) (new : Beam) {s : Bool} (es : s ≡ isSize w h) where
@@ -96,8 +94,6 @@ module _ (w h : ℕ) {s : Bool} (es : s ≡ isSize w h) where
   unfolding settingOf makeFresh
   made-fresh t = rw (yes-of es t)
 
-pub ruleset freshes = (some-columns, some-rows, not-fresh, made-fresh)
-
 -- ---- RU's third integer: a signed argument comes back from a callee's contract as the machine reads it
 
 bits-minus : (v : ℤ) → isNegative v ≡ true → false ≡ bitsFrom v
@@ -120,8 +116,6 @@ module _ (v : ℤ) (f : SFits w32 v) {s : Bool} (es : s ≡ isNegative (toZ w32 
   pub plus-bits : s ≡ false → {m : ℕ} → m ≡ natAbs (toZ w32 (ofZ w32 v)) → {q : Bool} → q ≡ isBits m → q ≡ bitsFrom v
   plus-bits t em j = j ∙ ap isBits (rw (toZ-ofZ f) at em) ∙ bits-plus v (sign t)
 
-pub ruleset integers = (minus-bits, plus-bits)
-
 -- ---- RS's corners
 
 module _ (w h : ℕ) (a b : Point) {s : Bool} (es : s ≡ onSurface w h (a .x) (a .y)) where
@@ -132,8 +126,6 @@ module _ (w h : ℕ) (a b : Point) {s : Bool} (es : s ≡ onSurface w h (a .x) (
   pub one-on : s ≡ true → {q : Bool} → q ≡ onSurface w h (b .x) (b .y) → q ≡ cornersOn w h a b
   unfolding cornersOn
   one-on t j = rw (sym es ∙ t) j
-
-pub ruleset corners = (one-off, one-on)
 
 -- ---- the calls, once the values are tested and the new record is made
 

@@ -1,4 +1,4 @@
-use Rattle.beam.proofs.Settling.{corners}
+use Rattle.beam.proofs.Settling.{one-off, one-on}
 use borrow.Author.Needs.{needs}
 use Rattle.beam.proofs.both_on_surface.Statement.{statement}
 use Rattle.beam.proofs.both_on_surface.Tie as tie
@@ -22,10 +22,10 @@ on-surface-requires-2 : tie.Need-on-surface-requires-2
 on-surface-requires-2 c κs = search needs
 
 returns : tie.Need-returns
-returns c = search (needs, corners)
+returns c = search (needs, one-on)
 
 returns-2 : tie.Need-returns-2
-returns-2 c = search (needs, corners)
+returns-2 c = search (needs, one-off)
 
 pub both-on-surface-spec : {M : Type 1} → statement M
 both-on-surface-spec =
