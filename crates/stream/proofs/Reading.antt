@@ -57,8 +57,6 @@ passing-end s at i f h =
     let z : i ≡ i + 0 = omega arith in
     z ∙ sym (rw d) ∙ f .same
 
-pub ruleset passings = (passing-none, passing-more, passing-stop, passing-end)
-
 -- ---- the item of a command
 
 apart : {A : Type 0} {t : A} {e p : ℕ} → done t ≡ refused e p → ⊥
@@ -102,8 +100,6 @@ module _ (kept : Remembered) (s : List ℕ) (start room : ℕ) where
       pub item-refused : {n : ℕ} → (v ≡ 7 → ⊥) → n ≡ passedFrom s p → itemOf (Refused x p n kept) ≡ toldItem (commandItem kept s start room)
       unfolding commandItem itemOf toldItem
       item-refused h j = rw (broken, ← ev, ne-eqb v 7 h, j)
-
-pub ruleset items = (list-kept, item-done, item-unread, item-refused)
 
 -- ---- any item
 
@@ -173,5 +169,3 @@ module _ (kept : Remembered) (s : List ℕ) (start room : ℕ) where
 
           pub escape-list : (l : List ℤ) {o : List ℤ} → o ≡ afterItem (commandItem kept s start room) l → o ≡ afterItem (itemAt kept s start room) l
           escape-list l j = rw escape j
-
-pub ruleset starts = (past-item, past-list, outside-item, outside-list, end-item, end-list, text-item, text-list, escape-item, escape-list)

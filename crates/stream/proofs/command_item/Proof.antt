@@ -1,4 +1,4 @@
-use Rattle.stream.proofs.Reading.{items}
+use Rattle.stream.proofs.Reading.{list-kept, item-done, item-unread, item-refused}
 use borrow.Author.Needs.{needs}
 use Rattle.stream.proofs.command_item.Statement.{statement}
 use Rattle.stream.proofs.command_item.Tie as tie
@@ -19,7 +19,7 @@ same-length : tie.Need-same-length
 same-length c = search needs
 
 returns : tie.Need-returns
-returns c = search (needs, items)
+returns c = search (needs, list-kept, item-unread)
 
 next-escape-requires : tie.Need-next-escape-requires
 next-escape-requires c κs = search needs
@@ -28,13 +28,13 @@ same-length-2 : tie.Need-same-length-2
 same-length-2 c = search needs
 
 returns-2 : tie.Need-returns-2
-returns-2 c = search (needs, items)
+returns-2 c = search (needs, list-kept, item-done)
 
 same-length-3 : tie.Need-same-length-3
 same-length-3 c = search needs
 
 returns-3 : tie.Need-returns-3
-returns-3 c = search (needs, items)
+returns-3 c = search (needs, list-kept, item-refused)
 
 pub command-item-spec : {M : Type 1} → statement M
 command-item-spec =

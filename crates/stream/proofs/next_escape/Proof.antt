@@ -1,7 +1,7 @@
 use borrow.Author.Needs.{needs}
 use Prim.Native.Nat.{_-_}
 use lib.ListN.{length}
-use Rattle.stream.proofs.Reading.{Passing, passings}
+use Rattle.stream.proofs.Reading.{Passing, passing-none, passing-more, passing-stop, passing-end}
 use Rattle.stream.proofs.next_escape.Statement.{statement}
 use Rattle.stream.proofs.next_escape.Tie as tie
 
@@ -12,13 +12,13 @@ abbrev μ-loop : tie.MeasureT-loop
 μ-loop s at i₀ i = length s - i
 
 loop-holds : tie.Need-loop-holds Inv-loop μ-loop
-loop-holds c = search (needs, passings)
+loop-holds c = search (needs, passing-none)
 
 shared-slice-read-if1 : tie.Need-shared-slice-read-if1 Inv-loop μ-loop
 shared-slice-read-if1 c = search needs
 
 returns : tie.Need-returns Inv-loop μ-loop
-returns c = search (needs, passings)
+returns c = search (needs, passing-stop)
 
 add-i : tie.Need-add-i Inv-loop μ-loop
 add-i c = search needs
@@ -27,10 +27,10 @@ loop-less : tie.Need-loop-less Inv-loop μ-loop
 loop-less c = search needs
 
 loop-again : tie.Need-loop-again Inv-loop μ-loop
-loop-again c = search (needs, passings)
+loop-again c = search (needs, passing-more)
 
 returns-2 : tie.Need-returns-2 Inv-loop μ-loop
-returns-2 c = search (needs, passings)
+returns-2 c = search (needs, passing-end)
 
 pub next-escape-spec : {M : Type 1} → statement M
 next-escape-spec =
