@@ -37,8 +37,6 @@ module _ (a b : ℕ) (ps : Parameters) {f : Found} (ef : f ≡ kindOf a b) where
   unfolding isKind
   same-kind g em ej en = rw (em, en, ej, ← ef, g)
 
-pub ruleset letters = (no-kind, same-kind)
-
 -- ---- entries
 
 pub integer-entry : {e : Entry} (v x : ℤ) {b : Bool} → e ≡ AnInteger → b ≡ isInteger x → x ≡ v → b ≡ isEntry e v
@@ -49,8 +47,6 @@ character-entry v x g j i = j ∙ rw (g, i)
 
 pub two-entries : (e : Entry) (v w x y : ℤ) (a b : Bool) {t : Bool} → a ≡ isEntry e x → x ≡ v → b ≡ isEntry e y → y ≡ w → t ≡ a && b → t ≡ isEntry e v && isEntry e w
 two-entries e v w x y a b ea i eb j et = et ∙ rw (ea, eb, i, j)
-
-pub ruleset entries = (integer-entry, character-entry, two-entries)
 
 -- ---- values
 
@@ -121,8 +117,6 @@ module _ (e : Entry) (es : List ℤ) where
 
 pub tail-of : (ps : Parameters) (es : List ℤ) {q : Parameters} {t : Bool} → ps ≡ q → t ≡ isTail (tailOf q) es → t ≡ isTail (tailOf ps) es
 tail-of ps es g j = rw g j
-
-pub ruleset tails = (too-many, few-enough, tail-of)
 
 -- ---- the whole command
 

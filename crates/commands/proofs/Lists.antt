@@ -95,8 +95,6 @@ module _ (e : Entry) (kept : Remembered) (list : List ℤ) (out₀ out : List �
         few = omega (arith, f .few, f .upto);
       }
 
-pub ruleset enterings = (entering-none, entry-ok, entering-more, entering-end)
-
 -- ---- a counted list
 
 module _ (e : Entry) (kept : Remembered) (list : List ℤ) (h : isTail (counted e) list ≡ true) where
@@ -141,8 +139,6 @@ pub no-tail : (kept : Remembered) (ps : Parameters) (es : List ℤ) {q : Paramet
 unfolding spellTail
 no-tail kept ps es l at g j = rw (g, j) (record { size = refl; stand = refl; few = omega arith })
 
-pub ruleset tails = (list-few, list-ok, list-poured, tail-ok, tail-poured, no-tail)
-
 -- ---- what is remembered
 
 pub after-kind : (kept : Remembered) (ps : Parameters) {q : Parameters} {k : Remembered} → ps ≡ q → k ≡ afterValues kept (valuesOf q) → k ≡ afterValues kept (valuesOf ps)
@@ -179,8 +175,6 @@ command-poured kept c es l m o q n r em f ek g =
     let y : 0 + (3 + n) ≡ 3 + n = omega arith in
     let g′ : Poured t 771 o q (0 + (3 + n)) r = rw (y, ← ek) g in
     rw (← append-assoc head w t) (poured-both (head ++ w) t 13 771 784 l o q 0 (3 + n) r two g′ (omega arith))
-
-pub ruleset commands = (command-inside, command-values, command-tail, command-poured)
 
 -- ---- written, or refused
 

@@ -90,8 +90,6 @@ pub corners-poured : (kept : Remembered) (p q : Point) {k : Remembered} (l m o :
 corners-poured kept p q l m o at n r f e g =
     poured-both (sent kept (spellPoint (kept .point) p)) (sent (remember kept p) (spellPoint p q)) 5 5 10 l m o at n r f (rw e at g) (omega arith)
 
-pub ruleset pieces = (integer-poured, character-poured, place-poured, inside-after, pair-poured, triple-poured, corners-poured)
-
 -- ---- the values of each kind
 
 every-two : {A : Type 0} (ok : A → Bool) (x : A) (xs : List A) → every ok (x ∷ xs) ≡ true → (ok x ≡ true) × (every ok xs ≡ true)

@@ -1,7 +1,7 @@
 use borrow.Author.Needs.{needs}
 use Prim.Native.Nat.{_-_}
 use lib.ListN.{length}
-use Rattle.refusals.proofs.Many.{Checking, checkings}
+use Rattle.refusals.proofs.Many.{Checking, checking-none, checking-more, checking-no, checking-end}
 use Rattle.commands.specs.Writing.{isEntry}
 use Rattle.commands.proofs.are_entries.Statement.{statement}
 use Rattle.commands.proofs.are_entries.Tie as tie
@@ -13,7 +13,7 @@ abbrev μ-loop : tie.MeasureT-loop
 μ-loop entry list i₀ i = length list - i
 
 loop-holds : tie.Need-loop-holds Inv-loop μ-loop
-loop-holds c = search (needs, checkings)
+loop-holds c = search (needs, checking-none)
 
 mul-v : tie.Need-mul-v Inv-loop μ-loop
 mul-v c = search needs
@@ -31,13 +31,13 @@ loop-less : tie.Need-loop-less Inv-loop μ-loop
 loop-less c = search needs
 
 loop-again : tie.Need-loop-again Inv-loop μ-loop
-loop-again c = search (needs, checkings)
+loop-again c = search (needs, checking-more)
 
 returns : tie.Need-returns Inv-loop μ-loop
-returns c = search (needs, checkings)
+returns c = search (needs, checking-no)
 
 returns-2 : tie.Need-returns-2 Inv-loop μ-loop
-returns-2 c = search (needs, checkings)
+returns-2 c = search (needs, checking-end)
 
 pub are-entries-spec : {M : Type 1} → statement M
 are-entries-spec =

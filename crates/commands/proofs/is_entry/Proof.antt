@@ -1,4 +1,4 @@
-use Rattle.commands.proofs.Fitting.{entries}
+use Rattle.commands.proofs.Fitting.{integer-entry, character-entry}
 use borrow.Author.Needs.{needs}
 use Rattle.commands.proofs.is_entry.Statement.{statement}
 use Rattle.commands.proofs.is_entry.Tie as tie
@@ -16,10 +16,10 @@ is-character-requires : tie.Need-is-character-requires
 is-character-requires c κs = search needs
 
 returns : tie.Need-returns
-returns c = search (needs, entries)
+returns c = search (needs, integer-entry)
 
 returns-2 : tie.Need-returns-2
-returns-2 c = search (needs, entries)
+returns-2 c = search (needs, character-entry)
 
 pub is-entry-spec : {M : Type 1} → statement M
 is-entry-spec =

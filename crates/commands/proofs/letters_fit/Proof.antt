@@ -1,4 +1,4 @@
-use Rattle.commands.proofs.Fitting.{letters}
+use Rattle.commands.proofs.Fitting.{no-kind, same-kind}
 use borrow.Author.Needs.{needs}
 use Rattle.commands.proofs.letters_fit.Statement.{statement}
 use Rattle.commands.proofs.letters_fit.Tie as tie
@@ -22,10 +22,10 @@ enum-told : tie.Need-enum-told
 enum-told c = search needs
 
 returns : tie.Need-returns
-returns c = search (needs, letters)
+returns c = search (needs, same-kind)
 
 returns-2 : tie.Need-returns-2
-returns-2 c = search (needs, letters)
+returns-2 c = search (needs, no-kind)
 
 pub letters-fit-spec : {M : Type 1} → statement M
 letters-fit-spec =

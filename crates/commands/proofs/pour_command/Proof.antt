@@ -1,4 +1,5 @@
-use Rattle.commands.proofs.Lists.{commands}
+use native.Mathlib.Omega.{arith}
+use Rattle.commands.proofs.Lists.{command-inside, command-values, command-tail, command-poured}
 use borrow.Author.Needs.{needs}
 use Rattle.commands.proofs.pour_command.Statement.{statement}
 use Rattle.commands.proofs.pour_command.Tie as tie
@@ -7,7 +8,7 @@ pour-three-requires : tie.Need-pour-three-requires
 pour-three-requires c κs = search needs
 
 pour-values-requires : tie.Need-pour-values-requires
-pour-values-requires c κs = search (needs, commands)
+pour-values-requires c κs = ((search (needs, command-inside), search (needs, command-values)), omega arith)
 
 add-next : tie.Need-add-next
 add-next c = search needs
@@ -16,7 +17,7 @@ remembered-after-requires : tie.Need-remembered-after-requires
 remembered-after-requires c κs = search needs
 
 pour-tail-requires : tie.Need-pour-tail-requires
-pour-tail-requires c κs = search (needs, commands)
+pour-tail-requires c κs = search (needs, command-tail)
 
 add-result : tie.Need-add-result
 add-result c = search needs
@@ -25,7 +26,7 @@ same-length : tie.Need-same-length
 same-length c = search needs
 
 returns : tie.Need-returns
-returns c = search (needs, commands)
+returns c = search (needs, command-poured)
 
 pub pour-command-spec : {M : Type 1} → statement M
 pour-command-spec =

@@ -1,4 +1,4 @@
-use Rattle.commands.proofs.Pouring.{pieces}
+use Rattle.commands.proofs.Pouring.{inside-after, corners-poured}
 use borrow.Author.Needs.{needs}
 use Rattle.commands.proofs.pour_corners.Statement.{statement}
 use Rattle.commands.proofs.pour_corners.Tie as tie
@@ -13,7 +13,7 @@ with-point-requires : tie.Need-with-point-requires
 with-point-requires c κs = search needs
 
 pour-place-requires-2 : tie.Need-pour-place-requires-2
-pour-place-requires-2 c κs = search (needs, pieces)
+pour-place-requires-2 c κs = search (needs, inside-after)
 
 add-result : tie.Need-add-result
 add-result c = search needs
@@ -22,7 +22,7 @@ same-length : tie.Need-same-length
 same-length c = search needs
 
 returns : tie.Need-returns
-returns c = search (needs, pieces)
+returns c = search (needs, corners-poured)
 
 pub pour-corners-spec : {M : Type 1} → statement M
 pour-corners-spec =

@@ -2,7 +2,7 @@ use Prim.Native.Nat.{_-_}
 use native.Mathlib.Omega.{arith}
 use borrow.Author.Needs.{needs}
 use lib.ListN.{length}
-use Rattle.commands.proofs.Lists.{Entering, enterings}
+use Rattle.commands.proofs.Lists.{Entering, entering-none, entry-ok, entering-more, entering-end}
 use Rattle.commands.proofs.pour_entries.Statement.{statement}
 use Rattle.commands.proofs.pour_entries.Tie as tie
 
@@ -13,7 +13,7 @@ abbrev μ-loop : tie.MeasureT-loop
 μ-loop kept entry list out₀ at i₀ n₀ out i n = length list - i
 
 loop-holds : tie.Need-loop-holds Inv-loop μ-loop
-loop-holds c = search (needs, enterings)
+loop-holds c = search (needs, entering-none)
 
 add-next : tie.Need-add-next Inv-loop μ-loop
 add-next c = omega arith
@@ -25,7 +25,7 @@ shared-slice-copy-out-v : tie.Need-shared-slice-copy-out-v Inv-loop μ-loop
 shared-slice-copy-out-v c = omega arith
 
 pour-entry-requires : tie.Need-pour-entry-requires Inv-loop μ-loop
-pour-entry-requires c κs = search (needs, enterings)
+pour-entry-requires c κs = search (needs, entry-ok)
 
 add-n : tie.Need-add-n Inv-loop μ-loop
 add-n c = omega arith
@@ -37,13 +37,13 @@ loop-less : tie.Need-loop-less Inv-loop μ-loop
 loop-less c = omega arith
 
 loop-again : tie.Need-loop-again Inv-loop μ-loop
-loop-again c = search (needs, enterings)
+loop-again c = search (needs, entering-more)
 
 same-length : tie.Need-same-length Inv-loop μ-loop
-same-length c = search (needs, enterings)
+same-length c = search needs
 
 returns : tie.Need-returns Inv-loop μ-loop
-returns c = search (needs, enterings)
+returns c = search (needs, entering-end)
 
 pub pour-entries-spec : {M : Type 1} → statement M
 pour-entries-spec =

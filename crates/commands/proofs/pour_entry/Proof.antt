@@ -1,4 +1,4 @@
-use Rattle.commands.proofs.Pouring.{pieces}
+use Rattle.commands.proofs.Pouring.{integer-poured, character-poured}
 use borrow.Author.Needs.{needs}
 use Rattle.commands.proofs.pour_entry.Statement.{statement}
 use Rattle.commands.proofs.pour_entry.Tie as tie
@@ -22,13 +22,13 @@ same-length : tie.Need-same-length
 same-length c = search needs
 
 returns : tie.Need-returns
-returns c = search (needs, pieces)
+returns c = search (needs, integer-poured)
 
 same-length-2 : tie.Need-same-length-2
 same-length-2 c = search needs
 
 returns-2 : tie.Need-returns-2
-returns-2 c = search (needs, pieces)
+returns-2 c = search (needs, character-poured)
 
 pub pour-entry-spec : {M : Type 1} → statement M
 pour-entry-spec =

@@ -1,5 +1,5 @@
 use native.Mathlib.Omega.{arith}
-use Rattle.commands.proofs.Lists.{count-few, tails}
+use Rattle.commands.proofs.Lists.{count-few, list-few, list-ok, list-poured}
 use borrow.Author.Needs.{needs}
 use Rattle.commands.proofs.pour_list.Statement.{statement}
 use Rattle.commands.proofs.pour_list.Tie as tie
@@ -17,7 +17,7 @@ pour-entries-requires : tie.Need-pour-entries-requires
 pour-entries-requires c κs =
     let start = c .before .before .before .before .before .before in
     let few = count-few (start .args .entry) (start .args .kept) _ (start .pre .0) (c .before .before .before .pour-count .ensures .0) in
-    ((search (needs, tails), search (needs, tails)), omega (arith, few))
+    ((search (needs, list-ok), search (needs, list-few)), omega (arith, few))
 
 add-result : tie.Need-add-result
 add-result c =
@@ -29,7 +29,7 @@ same-length : tie.Need-same-length
 same-length c = search needs
 
 returns : tie.Need-returns
-returns c = search (needs, tails)
+returns c = search (needs, list-poured)
 
 pub pour-list-spec : {M : Type 1} → statement M
 pour-list-spec =

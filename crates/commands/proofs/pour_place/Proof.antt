@@ -1,4 +1,4 @@
-use Rattle.commands.proofs.Pouring.{pieces}
+use Rattle.commands.proofs.Pouring.{place-poured}
 use borrow.Author.Needs.{needs}
 use Rattle.commands.proofs.pour_place.Statement.{statement}
 use Rattle.commands.proofs.pour_place.Tie as tie
@@ -10,7 +10,7 @@ same-length : tie.Need-same-length
 same-length c = search needs
 
 returns : tie.Need-returns
-returns c = search (needs, pieces)
+returns c = search (needs, place-poured)
 
 pub pour-place-spec : {M : Type 1} → statement M
 pour-place-spec = tie.close (tie.spec pour-point-requires same-length returns)

@@ -14,13 +14,13 @@ enum-known-parameters-2 : tie.Need-enum-known-parameters-2
 enum-known-parameters-2 c = search needs
 
 pour-pair-requires : tie.Need-pour-pair-requires
-pour-pair-requires c κs = search (needs, double-first, double-second)
+pour-pair-requires c κs = ((search (needs, double-first), search (needs, double-second)), omega arith)
 
 enum-known-parameters-3 : tie.Need-enum-known-parameters-3
 enum-known-parameters-3 c = search needs
 
 pour-triple-requires : tie.Need-pour-triple-requires
-pour-triple-requires c κs = search (needs, triple-first, triple-second, triple-third)
+pour-triple-requires c κs = ((search (needs, triple-first), (search (needs, triple-second), search (needs, triple-third))), omega arith)
 
 enum-known-parameters-4 : tie.Need-enum-known-parameters-4
 enum-known-parameters-4 c = search needs
@@ -32,7 +32,7 @@ enum-known-parameters-5 : tie.Need-enum-known-parameters-5
 enum-known-parameters-5 c = search needs
 
 pour-corners-requires : tie.Need-pour-corners-requires
-pour-corners-requires c κs = search (needs, corners-first, corners-second)
+pour-corners-requires c κs = ((search needs, (search (needs, corners-first), search (needs, corners-second))), omega arith)
 
 enum-known-parameters-6 : tie.Need-enum-known-parameters-6
 enum-known-parameters-6 c = search needs
@@ -44,7 +44,7 @@ enum-known-parameters-7 : tie.Need-enum-known-parameters-7
 enum-known-parameters-7 c = search needs
 
 pour-pair-requires-3 : tie.Need-pour-pair-requires-3
-pour-pair-requires-3 c κs = search (needs, letters-first, letters-second)
+pour-pair-requires-3 c κs = ((search (needs, letters-first), search (needs, letters-second)), omega arith)
 
 enum-told : tie.Need-enum-told
 enum-told c = search needs

@@ -4,7 +4,7 @@ use Rattle.commands.proofs.read_command.Statement.{statement}
 use Rattle.commands.proofs.read_command.Tie as tie
 
 returns : tie.Need-returns
-returns c = search (needs, past-end, kept-past)
+returns c = (search (needs, past-end), search (needs, kept-past))
 
 add-letters : tie.Need-add-letters
 add-letters c = search needs
@@ -25,10 +25,10 @@ same-length : tie.Need-same-length
 same-length c = search needs
 
 returns-2 : tie.Need-returns-2
-returns-2 c = search (needs, command-is, entries-are)
+returns-2 c = (search (needs, command-is), search (needs, entries-are))
 
 returns-3 : tie.Need-returns-3
-returns-3 c = search (needs, head-none, kept-none)
+returns-3 c = (search (needs, head-none), search (needs, kept-none))
 
 pub read-command-spec : {M : Type 1} → statement M
 read-command-spec =

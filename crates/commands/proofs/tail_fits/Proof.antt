@@ -1,4 +1,4 @@
-use Rattle.commands.proofs.Fitting.{tails}
+use Rattle.commands.proofs.Fitting.{tail-of}
 use Rattle.commands.specs.Writing.{isTail}
 use borrow.Author.Needs.{needs}
 use Rattle.commands.proofs.tail_fits.Statement.{statement}
@@ -51,47 +51,47 @@ enum-told-11 c = search needs
 
 returns : tie.Need-returns
 unfolding isTail
-returns c = search (needs, tails)
+returns c = search (needs, tail-of)
 
 returns-2 : tie.Need-returns-2
 unfolding isTail
-returns-2 c = search (needs, tails)
+returns-2 c = search (needs, tail-of)
 
 returns-3 : tie.Need-returns-3
 unfolding isTail
-returns-3 c = search (needs, tails)
+returns-3 c = search (needs, tail-of)
 
 returns-4 : tie.Need-returns-4
 unfolding isTail
-returns-4 c = search (needs, tails)
+returns-4 c = search (needs, tail-of)
 
 returns-5 : tie.Need-returns-5
 unfolding isTail
-returns-5 c = search (needs, tails)
+returns-5 c = search (needs, tail-of)
 
 returns-6 : tie.Need-returns-6
 unfolding isTail
-returns-6 c = search (needs, tails)
+returns-6 c = search (needs, tail-of)
 
 returns-7 : tie.Need-returns-7
 unfolding isTail
-returns-7 c = search (needs, tails)
+returns-7 c = search (needs, tail-of)
 
 returns-8 : tie.Need-returns-8
 unfolding isTail
-returns-8 c = search (needs, tails)
+returns-8 c = search (needs, tail-of)
 
 returns-9 : tie.Need-returns-9
 unfolding isTail
-returns-9 c = search (needs, tails)
+returns-9 c = search (needs, tail-of)
 
 returns-10 : tie.Need-returns-10
 unfolding isTail
-returns-10 c = search (needs, tails)
+returns-10 c = search (needs, tail-of)
 
 returns-11 : tie.Need-returns-11
 unfolding isTail
-returns-11 c = search (needs, tails)
+returns-11 c = search (needs, tail-of)
 
 pub tail-fits-spec : {M : Type 1} → statement M
 tail-fits-spec =
