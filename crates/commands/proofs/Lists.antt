@@ -1,5 +1,5 @@
 -- The entries of a list, poured one a turn, and the whole command behind them.
-use Prim.Native.Nat.{ℕ, zero, suc, _+_, _*_, _≤_, _<_}
+use Prim.Native.Nat.{ℕ, zero, suc, _+_, _*_, _%_, _≤_, _<_}
 use mathlib.Core.Path.{_≡_, refl, sym, _∙_, ap}
 use mathlib.Core.Bool.{Bool, true, false, _&&_}
 use mathlib.Core.List.{List, [], _∷_, _++_, append-assoc}
@@ -7,9 +7,9 @@ use native.Mathlib.Omega.{arith}
 use native.Mathlib.Numerals.{add-one}
 use borrow.Author.Tests.{le-leb, leb-true}
 use lib.Dec.{leb}
-use lib.ListN.{length, getD, take, drop, length-append, drop-of-length-le}
+use lib.ListN.{length, getD, take, drop, set, length-append, drop-of-length-le}
 use lib.Seq.{sets, sets-eq, take-append-seam, length-take-le, drop-cons, length-sets}
-use lib.IntN.{ℤ, pos}
+use lib.IntN.{ℤ, pos, natAbs}
 use Rattle.memory.specs.declared.Remembered.{Remembered}
 use Rattle.memory.specs.declared.Point.{Point}
 use Rattle.memory.specs.Memory.{inside, remember}
@@ -17,15 +17,18 @@ use Rattle.refusals.specs.Answers.{Answer, every}
 use Rattle.refusals.specs.declared.Refusal.the-variants.{NotValid}
 use Rattle.refusals.proofs.Cases.{and-left, and-right}
 use Rattle.refusals.proofs.Many.{sets-append}
-use Rattle.wire.specs.Sending.{sent, poured, writtenOf, writeAt, writeIf, afterWrite}
+use Rattle.wire.specs.Sending.{sent, isPlain, poured, writtenOf, writeAt, writeIf, afterWrite}
 use Rattle.wire.specs.declared.Written.the-variants.{Next, NotWritten}
+use Rattle.wire.proofs.Laying.{Laying, laying-none, laying-more, laying-end, sent-plain}
+use Rattle.characters.proofs.Entries.{a-byte}
 use Rattle.numbers.specs.Integers.{spell}
 use Rattle.numbers.proofs.Shortest.{spell-few}
 use Rattle.parameters.specs.declared.Entry.{Entry}
+use Rattle.parameters.specs.declared.Entry.the-variants.{ACharacter}
 use Rattle.parameters.specs.declared.Parameters.{Parameters}
 use Rattle.parameters.specs.Shapes.{Tail, none, counted, valuesOf, tailOf}
 use Rattle.commands.specs.declared.Command.{Command}
-use Rattle.commands.specs.Writing.{isKind, isEntry, areEntries, areValues, isTail, isCommand, spellEntry, spellEntries, spellValues, afterValues, spellTail, spellParameters, spellCommand, writeCommand, Poured}
+use Rattle.commands.specs.Writing.{isKind, isEntry, areEntries, areValues, isTail, isCommand, spellEntry, spellEntries, spellValues, afterValues, spellTail, spellParameters, spellCommand, writeCommand, Poured, bytesOf}
 use Rattle.commands.proofs.Pouring.{poured-both}
 
 -- ---- entries
@@ -94,6 +97,47 @@ module _ (e : Entry) (kept : Remembered) (list : List ℤ) (out₀ out : List �
         stand = sym (ap (λ (y : List ℕ). sets out (at + n) y) z) ∙ f .whole;
         few = omega (arith, f .few, f .upto);
       }
+
+-- ---- characters that are sent as themselves
+
+bytes-long : (list : List ℤ) → length (bytesOf list) ≡ length list
+bytes-long [] = refl
+bytes-long (v ∷ list) = ap suc (bytes-long list)
+
+byte-at : (list : List ℤ) (i : ℕ) → getD (bytesOf list) i 0 ≡ natAbs (getD list i (pos 0)) % 256
+byte-at [] i = refl
+byte-at (v ∷ list) zero = refl
+byte-at (v ∷ list) (suc i) = byte-at list i
+
+bytes-spelled : (kept : Remembered) (list : List ℤ) → isPlain kept ≡ true → areEntries ACharacter list ≡ true → bytesOf list ≡ spellEntries ACharacter kept list
+unfolding spellEntries spellEntry
+bytes-spelled kept [] p h = refl
+bytes-spelled kept (v ∷ list) p h =
+    let ok = split ACharacter v list h in
+    let one : (natAbs v % 256) ∷ [] ≡ sent kept (natAbs v ∷ []) = ap (λ (b : ℕ). b ∷ []) (a-byte v (ok .0)) ∙ sym (sent-plain kept (natAbs v ∷ []) p) in
+    ap (λ (w : List ℕ). w ++ bytesOf list) one ∙ ap (λ (w : List ℕ). sent kept (natAbs v ∷ []) ++ w) (bytes-spelled kept list p (ok .1))
+
+module _ (list : List ℤ) (out₀ out : List ℕ) (at i : ℕ) (f : Laying (bytesOf list) out₀ out at i) where
+  pub byte-laid : (v x : ℤ) {b : ℕ} → i < length list → v ≡ getD list i (pos 0) → b ≡ natAbs x % 256 → x ≡ v → Laying (bytesOf list) out₀ (set out (at + i) b) at (i + 1)
+  byte-laid v x {b} h ev eb j =
+      let e : b ≡ getD (bytesOf list) i 0 = eb ∙ ap (λ (y : ℤ). natAbs y % 256) (j ∙ ev) ∙ sym (byte-at list i) in
+      rw (← e) at (laying-more (bytesOf list) out₀ out at i f (omega (arith, bytes-long list)))
+
+  pub bytes-laid : length list ≤ i → out ≡ sets out₀ at (bytesOf list)
+  bytes-laid h = laying-end (bytesOf list) out₀ out at i f (omega (arith, bytes-long list))
+
+pub ruleset layings = (laying-none, byte-laid, bytes-laid)
+
+pub characters-laid : (kept : Remembered) (list : List ℤ) (l o : List ℕ) (at : ℕ) {t : Bool} → t ≡ isPlain kept → t ≡ true → areEntries ACharacter list ≡ true → length list ≤ 256 → o ≡ sets l at (bytesOf list) → Poured (spellEntries ACharacter kept list) 768 l o at (length list)
+characters-laid kept list l o at e h ok few j =
+    let s = bytes-spelled kept list (sym e ∙ h) ok in
+    record { size = sym (bytes-long list) ∙ ap length s; stand = j ∙ ap (λ (y : List ℕ). sets l at y) s; few = omega arith }
+
+pub all-entries : (e : Entry) (list : List ℤ) {k : Entry} → areEntries e list ≡ true → e ≡ k → areEntries k list ≡ true
+all-entries e list h g = rw g at h
+
+pub all-poured : (e : Entry) (kept : Remembered) (list : List ℤ) (l o : List ℕ) (at r : ℕ) {k : Entry} → e ≡ k → Poured (spellEntries k kept list) 768 l o at r → Poured (spellEntries e kept list) 768 l o at r
+all-poured e kept list l o at r g f = rw g f
 
 -- ---- a counted list
 

@@ -1,15 +1,16 @@
 // A whole command: ESC, two capital letters, then its parameters.
 ghost use mathlib.Core.Path.{_≡_};
 ghost use lib.ListN.{length};
+ghost use lib.Seq.{sets};
 ghost use Rattle.commands.specs.Reading.{letterOf, letterAt, headOf, secondAt, headAt, bodyAt, commandOf, commandAt, told, afterEntries};
-ghost use Rattle.commands.specs.Writing.{kindFor, kindNumber, isKind, isEntry, areEntries, areValues, isTail, isCommand, spellEntry, spellEntries, spellValues, afterValues, spellTail, spellCommand, writeCommand, Poured};
+ghost use Rattle.commands.specs.Writing.{kindFor, kindNumber, isKind, isEntry, areEntries, areValues, isTail, isCommand, spellEntry, spellEntries, spellValues, afterValues, spellTail, spellCommand, writeCommand, Poured, bytesOf};
 ghost use Rattle.memory.specs.Memory.{inside, remember};
-ghost use Rattle.wire.specs.Sending.{sent, writtenOf, afterWrite};
+ghost use Rattle.wire.specs.Sending.{sent, isPlain, writtenOf, afterWrite};
 ghost use Rattle.points.specs.Writing.{spellPoint};
 ghost use mathlib.Core.List.{_++_};
 ghost use Rattle.parameters.specs.Shapes.{counted, valuesOf, tailOf};
 ghost use mathlib.Core.Bool.{true, _&&_};
-ghost use Prim.Native.Nat.{_<_, _≤_};
+ghost use Prim.Native.Nat.{_<_, _≤_, _+_};
 use memory::Point;
 use memory::Remembered;
 use parameters::Entry;
@@ -379,13 +380,51 @@ fn pour_entries(kept: Remembered, entry: Entry, list: &[i32], out: &mut [u8], at
     n
 }
 
+// Characters as they are, where all of them have room: nothing is asked between one and the next.
+fn lay_characters(list: &[i32], out: &mut [u8], at: usize)
+    requires { ⌜ at + length (now list) ≤ length (now out) ⌝ }
+    ensures { λ r. ⌜ now (out .exit) ≡ sets (now (out .entry)) at (bytesOf (now (list .entry))) ⌝ }
+{
+    let mut i = 0;
+    while i < list.len() {
+        let v = list[i];
+        let to = at + i;
+        out[to] = characters::byte_of(v);
+        i = i + 1;
+    }
+}
+
+fn pour_characters(kept: Remembered, list: &[i32], out: &mut [u8], at: usize) -> usize
+    requires { ⌜ ((areEntries Entry.ACharacter (now list) ≡ true) × (length (now list) ≤ 256)) × (at ≤ 64) ⌝ }
+    ensures { λ r. ⌜ Poured (spellEntries Entry.ACharacter kept (now (list .entry))) 768 (now (out .entry)) (now (out .exit)) at r ⌝ }
+{
+    let end = at + list.len();
+    if wire::is_plain(kept) {
+        if end <= out.len() {
+            lay_characters(list, out, at);
+            return list.len();
+        }
+    }
+    pour_entries(kept, Entry::ACharacter, list, out, at)
+}
+
+fn pour_all(kept: Remembered, entry: Entry, list: &[i32], out: &mut [u8], at: usize) -> usize
+    requires { ⌜ ((areEntries entry (now list) ≡ true) × (length (now list) ≤ 256)) × (at ≤ 64) ⌝ }
+    ensures { λ r. ⌜ Poured (spellEntries entry kept (now (list .entry))) 768 (now (out .entry)) (now (out .exit)) at r ⌝ }
+{
+    match entry {
+        Entry::AnInteger => pour_entries(kept, entry, list, out, at),
+        Entry::ACharacter => pour_characters(kept, list, out, at),
+    }
+}
+
 fn pour_list(kept: Remembered, entry: Entry, list: &[i32], out: &mut [u8], at: usize) -> usize
     requires { ⌜ (isTail (counted entry) (now list) ≡ true) × (at ≤ 58) ⌝ }
     ensures { λ r. ⌜ Poured (spellTail kept (counted entry) (now (list .entry))) 771 (now (out .entry)) (now (out .exit)) at r ⌝ }
 {
     let n = numbers::pour_count(kept, list.len(), out, at);
     let next = at + n;
-    let m = pour_entries(kept, entry, list, out, next);
+    let m = pour_all(kept, entry, list, out, next);
     n + m
 }
 

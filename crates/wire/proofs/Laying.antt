@@ -17,7 +17,7 @@ use Rattle.refusals.proofs.Many.{past-end, sets-append}
 use Rattle.refusals.specs.declared.Refusal.{Refusal}
 use Rattle.refusals.specs.declared.Refusal.the-variants.{TooShort, NotValid}
 use Rattle.wire.specs.declared.Written.the-variants.{Next, NotWritten}
-use Rattle.wire.specs.Sending.{sent, writtenOf, writeAt, writeIf, afterWrite, poured}
+use Rattle.wire.specs.Sending.{sent, isPlain, writtenOf, writeAt, writeIf, afterWrite, poured}
 
 -- what is left, laid from here, ends where the whole ends
 pub record Laying (w out₀ out : List ℕ) (at i : ℕ) : Type 0 where
@@ -100,6 +100,10 @@ pub ruleset pourings = (laying-none, laying-more, laying-end, poured-past, poure
 sent-append : (kept : Remembered) (v w : List ℕ) → sent kept (v ++ w) ≡ sent kept v ++ sent kept w
 unfolding sent
 sent-append kept v w = refl
+
+pub sent-plain : (kept : Remembered) (w : List ℕ) → isPlain kept ≡ true → sent kept w ≡ w
+unfolding sent
+sent-plain kept w e = refl
 
 sent-long : (kept : Remembered) (w : List ℕ) → length (sent kept w) ≤ 2 * length w
 unfolding sent

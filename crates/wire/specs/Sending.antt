@@ -1,7 +1,7 @@
 -- Bytes that are written.
 use Prim.Native.Nat.{ℕ, _+_, _≤_}
 use mathlib.Core.Path.{_≡_}
-use mathlib.Core.Bool.{Bool}
+use mathlib.Core.Bool.{Bool, true}
 use mathlib.Core.List.{List, []}
 use lib.ListN.{length, take}
 use lib.Seq.{sets}
@@ -26,6 +26,10 @@ pub record Spells (w : List ℕ) (r : Spelling) : Type 0 where
 -- a parameter's bytes as they are sent: each as itself, "the writer writes 127"
 unfoldable pub sent : Remembered → List ℕ → List ℕ
 sent kept w = w
+
+-- whether each byte is sent as itself, whatever it is
+unfoldable pub isPlain : Remembered → Bool
+isPlain kept = true
 
 -- w from at on in so much room: all of it, or 7
 unfoldable pub writeAt : List ℕ → ℕ → ℕ → Answer ℕ

@@ -5,7 +5,7 @@ ghost use mathlib.Core.List.{[], _∷_};
 ghost use lib.ListN.{length};
 ghost use lib.Seq.{sets};
 ghost use Rattle.wire.specs.Taking.{byteAt, pairAt, byteOf};
-ghost use Rattle.wire.specs.Sending.{sent, writeAt, afterWrite, writtenOf};
+ghost use Rattle.wire.specs.Sending.{sent, isPlain, writeAt, afterWrite, writtenOf};
 use memory::Remembered;
 use refusals::Refusal;
 
@@ -154,4 +154,11 @@ pub fn pour_three(kept: Remembered, a: u8, b: u8, d: u8, out: &mut [u8], at: usi
     let n = pour_two(kept, a, b, out, at);
     let m = pour_behind(kept, n, d, out, at);
     n + m
+}
+
+// Whether each byte is sent as itself. Bytes may then be laid by whoever knows that they have room.
+pub fn is_plain(kept: Remembered) -> bool
+    ensures { λ r. ⌜ r ≡ isPlain kept ⌝ }
+{
+    true
 }

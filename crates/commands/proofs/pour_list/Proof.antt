@@ -13,8 +13,8 @@ add-next c =
     let few = count-few (start .args .entry) (start .args .kept) _ (start .pre .0) (c .before .before .pour-count .ensures .0) in
     omega (arith, few)
 
-pour-entries-requires : tie.Need-pour-entries-requires
-pour-entries-requires c κs =
+pour-all-requires : tie.Need-pour-all-requires
+pour-all-requires c κs =
     let start = c .before .before .before .before .before .before in
     let few = count-few (start .args .entry) (start .args .kept) _ (start .pre .0) (c .before .before .before .pour-count .ensures .0) in
     ((search (needs, list-ok), search (needs, list-few)), omega (arith, few))
@@ -34,4 +34,4 @@ returns c = search (needs, list-poured)
 pub pour-list-spec : {M : Type 1} → statement M
 pour-list-spec =
     tie.close
-    (tie.spec pour-count-requires add-next pour-entries-requires add-result same-length returns)
+    (tie.spec pour-count-requires add-next pour-all-requires add-result same-length returns)
