@@ -6,7 +6,7 @@ use Rattle.expansion.specs.Expansion.{Told}
 
 -- the store, where the body begins in it, and its length
 unfoldable pub placeFields : Placed → List ℕ
-placeFields p = p .store ∷ p .offset ∷ p .length ∷ []
+placeFields p = p .store ∷ p .offset ∷ p .long ∷ []
 
 -- "bytes written and macros entered"
 unfoldable pub countFields : Told → List ℕ

@@ -6,8 +6,8 @@ use Rattle.report_calls.proofs.ardh_write_string_report.Tie as tie
 write-string-requires : tie.Need-write-string-requires
 write-string-requires c κs = search needs
 
-enum-known-n : tie.Need-enum-known-n
-enum-known-n c = search needs
+enum-known-end : tie.Need-enum-known-end
+enum-known-end c = search needs
 
 enum-known-e : tie.Need-enum-known-e
 enum-known-e c = search needs
@@ -32,7 +32,7 @@ ardh-write-string-report-spec =
     tie.close
     (tie.spec
     write-string-requires
-    enum-known-n
+    enum-known-end
     enum-known-e
     number-requires
     same-length
