@@ -1,40 +1,6 @@
-//! The second program: it follows the rules of document 01 with no code of the proved crates, so that the two can be compared.
+//! The second program's commands.
 
-mod answers;
-mod blocks;
-mod bodies;
-mod calls;
-mod cases;
-mod commands;
-mod digest;
-mod draws;
-mod expansion;
-mod expansion_cases;
-mod forms;
-mod integers;
-mod items;
-mod lent_stores;
-mod lister;
-mod macros;
-mod made;
-mod parameters;
-mod pictures;
-mod pixels;
-mod points;
-mod ranges;
-mod record;
-mod reports;
-mod spellings;
-mod store;
-mod store_cases;
-mod streams;
-mod table;
-mod tally;
-mod trouble;
-mod values;
-mod vectors;
-mod ways;
-
+use second::{lister, macros, pictures, streams, vectors};
 use std::env;
 use std::error::Error;
 use std::process::ExitCode;

@@ -1,0 +1,6 @@
+//! Commands written.
+
+mod making;
+mod writing;
+
+pub use making::{troubled_command, valid_command};

@@ -1,0 +1,7 @@
+//! Macros expanded.
+
+mod bodies;
+mod expanding;
+mod making;
+
+pub use making::expansion;

@@ -1,0 +1,173 @@
+//! The kinds of cases: how each is made, and what must be seen of it.
+
+use super::case::{attempt, Case};
+use super::commands::{troubled_command, valid_command};
+use super::draws::Draws;
+use super::expansions::expansion;
+use super::reports::{
+    integer_report_read, integer_report_written, string_report_read, string_report_written,
+};
+use super::shrinking::smallest;
+use super::stores::{definitions, look_up};
+use super::streams::{damaged_stream, random_stream, single_item, valid_stream};
+use super::surfaces::{beam_records, surfaces};
+use super::tally::Row;
+
+/// A number, and those that it comes before where both have their reason.
+pub type Order = (u8, &'static [u8]);
+
+pub struct Kind {
+    pub name: &'static str,
+    /// How many cases the fixed part has.
+    pub cases: u64,
+    /// The numbers that such a case can be answered with.
+    pub numbers: &'static [u8],
+    /// The orders that such a case can show.
+    pub orders: &'static [Order],
+    pub run: Run,
+}
+
+/// Makes a case out of draws, runs it and notes its answers. The text of a difference has the smallest input found.
+type Run = fn(&mut Draws, &mut Row) -> Result<(), String>;
+
+fn compared<C: Case>(case: C, row: &mut Row) -> Result<(), String> {
+    row.cases += 1;
+    attempt(&case, row).map_err(|difference| {
+        let (case, difference) = smallest(case.clone(), difference);
+        format!("{case}\n{difference}")
+    })
+}
+
+/// In the order of the table: how many cases of the fixed part, the numbers, the orders, and how a case is made and run.
+pub const KINDS: [Kind; 15] = [
+    kind("valid-streams", 400_000, &[0], &[], |draws, row| {
+        compared(valid_stream(draws), row)
+    }),
+    kind(
+        "damaged-streams",
+        600_000,
+        &[0, 1, 2, 3, 4, 5, 6],
+        &[],
+        |draws, row| compared(damaged_stream(draws), row),
+    ),
+    kind(
+        "random-streams",
+        800_000,
+        &[0, 1, 2, 3, 4, 5, 6],
+        &[],
+        |draws, row| compared(random_stream(draws), row),
+    ),
+    kind(
+        "single-items",
+        2_000_000,
+        &[0, 1, 2, 3, 4, 5, 6, 7, 8],
+        &[
+            (8, &[1, 2, 3, 4, 5, 6, 7]),
+            (1, &[7]),
+            (3, &[7]),
+            (4, &[5, 7]),
+            (6, &[7]),
+        ],
+        |draws, row| compared(single_item(draws), row),
+    ),
+    kind("valid-commands", 600_000, &[0], &[], |draws, row| {
+        compared(valid_command(draws), row)
+    }),
+    kind(
+        "troubled-commands",
+        1_200_000,
+        &[0, 7, 8],
+        &[(8, &[7])],
+        |draws, row| compared(troubled_command(draws), row),
+    ),
+    kind(
+        "integer-reports-read",
+        800_000,
+        &[0, 1, 3, 8],
+        &[(3, &[1])],
+        |draws, row| compared(integer_report_read(draws), row),
+    ),
+    kind(
+        "string-reports-read",
+        800_000,
+        &[0, 1, 3, 5, 7, 8],
+        &[(3, &[1, 7]), (1, &[7]), (5, &[3])],
+        |draws, row| compared(string_report_read(draws), row),
+    ),
+    kind(
+        "integer-reports-written",
+        800_000,
+        &[0, 7, 8],
+        &[(8, &[7])],
+        |draws, row| compared(integer_report_written(draws), row),
+    ),
+    kind(
+        "string-reports-written",
+        800_000,
+        &[0, 7, 8],
+        &[(8, &[7])],
+        |draws, row| compared(string_report_written(draws), row),
+    ),
+    kind(
+        "beam-records",
+        800_000,
+        &[0, 8, 11],
+        &[(11, &[8])],
+        |draws, row| compared(beam_records(draws), row),
+    ),
+    kind(
+        "surfaces",
+        800_000,
+        &[0, 8, 9, 10, 11],
+        &[(11, &[8, 9, 10]), (8, &[9, 10]), (9, &[8, 10])],
+        |draws, row| compared(surfaces(draws), row),
+    ),
+    kind(
+        "stores",
+        800_000,
+        &[0, 8, 12, 13],
+        &[(12, &[8, 13]), (8, &[13])],
+        |draws, row| compared(definitions(draws), row),
+    ),
+    kind(
+        "expansions",
+        600_000,
+        &[0, 7, 8, 12, 14, 15, 16, 17],
+        &[
+            (12, &[7, 8]),
+            (8, &[7, 15, 16]),
+            (14, &[7]),
+            (15, &[7, 16]),
+            (16, &[7]),
+            (17, &[7, 16]),
+        ],
+        |draws, row| compared(expansion(draws), row),
+    ),
+    kind(
+        "look-ups",
+        1_000_000,
+        &[0, 8, 12, 14],
+        &[(12, &[8])],
+        |draws, row| compared(look_up(draws), row),
+    ),
+];
+
+const fn kind(
+    name: &'static str,
+    cases: u64,
+    numbers: &'static [u8],
+    orders: &'static [Order],
+    run: Run,
+) -> Kind {
+    Kind {
+        name,
+        cases,
+        numbers,
+        orders,
+        run,
+    }
+}
+
+pub fn kind_named(name: &str) -> Option<usize> {
+    KINDS.iter().position(|kind| kind.name == name)
+}

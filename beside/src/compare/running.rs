@@ -1,0 +1,187 @@
+//! The fixed part, new cases for some minutes, and one case alone.
+
+use std::time::Duration;
+
+use super::draws::Draws;
+use super::kinds::{Kind, KINDS};
+use super::progress::Progress;
+use super::tally::Row;
+
+/// The fixed part's: never changed, or what it prints is another.
+const FIXED_SEED: u64 = 4105;
+
+/// Between two looks at the clock.
+const AT_A_TIME: u64 = 500;
+
+/// With minutes each kind has its turn: such a part of its cases in the fixed part.
+const PART: u64 = 200;
+
+/// What was found: the table, or the first difference.
+pub struct Report {
+    pub text: String,
+    pub is_good: bool,
+}
+
+struct Run {
+    seed: u64,
+    rows: Vec<Row>,
+    progress: Progress,
+}
+
+impl Run {
+    fn start(seed: u64) -> Run {
+        Run {
+            seed,
+            rows: KINDS.iter().map(|_| Row::default()).collect(),
+            progress: Progress::start(),
+        }
+    }
+
+    /// The next cases of a kind; the text of a difference.
+    fn go_on(&mut self, kind: usize, cases: u64) -> Result<(), String> {
+        let first = self.rows[kind].cases;
+        for case in first..first + cases {
+            let mut draws = Draws::of_case(self.seed, kind, case);
+            let run = KINDS[kind].run;
+            run(&mut draws, &mut self.rows[kind])
+                .map_err(|text| difference(self.seed, &KINDS[kind], case, &text))?;
+        }
+        self.progress.cases_done(cases, KINDS[kind].name);
+        Ok(())
+    }
+
+    fn every_kind_in_turn(&mut self, until: Duration) -> Result<(), String> {
+        loop {
+            for (kind, &Kind { cases, .. }) in KINDS.iter().enumerate() {
+                self.go_on(kind, cases / PART)?;
+                if self.progress.elapsed() >= until {
+                    return Ok(());
+                }
+            }
+        }
+    }
+
+    fn all_fixed_cases(&mut self) -> Result<(), String> {
+        for (kind, &Kind { cases, .. }) in KINDS.iter().enumerate() {
+            for _ in 0..cases / AT_A_TIME {
+                self.go_on(kind, AT_A_TIME)?;
+            }
+        }
+        Ok(())
+    }
+
+    /// The complaints of all kinds, each under its name.
+    fn complaints(&self) -> Vec<String> {
+        let mut complaints = Vec::new();
+        for (kind, row) in KINDS.iter().zip(&self.rows) {
+            let of_kind = row.complaints(kind.numbers, kind.orders).into_iter();
+            complaints.extend(of_kind.map(|complaint| format!("{}: {complaint}", kind.name)));
+        }
+        complaints
+    }
+
+    fn table(&self) -> String {
+        let mut text = format!("seed {}\n", self.seed);
+        let mut all = Row::default();
+        for (kind, row) in KINDS.iter().zip(&self.rows) {
+            text += &format!("{}: {row}\n", kind.name);
+            all.add(row);
+        }
+        text + &format!("all kinds: {}\n", all.without_orders())
+    }
+
+    /// Short runs need not reach everything; the fixed part must.
+    fn report(self, outcome: Result<(), String>, must_reach_all: bool) -> Report {
+        self.progress.end();
+        if let Err(text) = outcome {
+            let is_good = false;
+            return Report { text, is_good };
+        }
+        let complaints = self.complaints();
+        let mut text = self.table();
+        for complaint in &complaints {
+            text += &format!("{complaint}\n");
+        }
+        text += "no difference";
+        let is_good = complaints.is_empty() || !must_reach_all;
+        Report { text, is_good }
+    }
+}
+
+fn difference(seed: u64, kind: &Kind, case: u64, text: &str) -> String {
+    format!(
+        "DIFFERENCE in {}. The smallest input found:\n\n{text}\n\nagain: ./compare --seed {seed} --kind {} --case {case}",
+        kind.name, kind.name
+    )
+}
+
+pub fn fixed_part() -> Report {
+    let mut run = Run::start(FIXED_SEED);
+    let outcome = run.all_fixed_cases();
+    run.report(outcome, true)
+}
+
+pub fn for_minutes(minutes: f64, seed: u64) -> Report {
+    let mut run = Run::start(seed);
+    let outcome = run.every_kind_in_turn(Duration::from_secs_f64(minutes * 60.0));
+    run.report(outcome, false)
+}
+
+pub fn one_case(seed: u64, kind: usize, case: u64) -> Report {
+    let mut row = Row::default();
+    let kind_of_case = &KINDS[kind];
+    let outcome = (kind_of_case.run)(&mut Draws::of_case(seed, kind, case), &mut row);
+    match outcome {
+        Ok(()) => Report {
+            text: format!("{}: {row}\nno difference", kind_of_case.name),
+            is_good: true,
+        },
+        Err(text) => Report {
+            text: difference(seed, kind_of_case, case, &text),
+            is_good: false,
+        },
+    }
+}
+
+#[cfg(test)]
+mod tests {
+    use super::*;
+    use crate::compare::options::USAGE;
+
+    #[test]
+    fn the_same_cases_are_made_again() {
+        let table = || {
+            let mut run = Run::start(1);
+            for kind in 0..KINDS.len() {
+                run.go_on(kind, 20).unwrap();
+            }
+            run.table()
+        };
+        assert_eq!(table(), table());
+    }
+
+    #[test]
+    fn the_fixed_part_is_made_of_whole_batches() {
+        for kind in &KINDS {
+            assert_eq!(kind.cases % AT_A_TIME, 0, "{}", kind.name);
+            assert_ne!(kind.cases / PART, 0, "{}", kind.name);
+        }
+    }
+
+    #[test]
+    fn the_usage_says_how_many_cases_there_are() {
+        let cases: u64 = KINDS.iter().map(|kind| kind.cases).sum();
+        assert_eq!(cases, 12_800_000);
+        assert!(USAGE.contains("12,800,000 cases"));
+    }
+
+    #[test]
+    fn what_was_not_reached_is_not_passed() {
+        let report = Run::start(1).report(Ok(()), true);
+        assert!(!report.is_good);
+        assert!(report.text.contains("stores: 13 was not seen"));
+        assert!(Run::start(1).report(Ok(()), false).is_good);
+        let different = Run::start(1).report(Err("DIFFERENCE".to_string()), false);
+        assert!(!different.is_good);
+    }
+}

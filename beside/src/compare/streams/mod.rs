@@ -1,0 +1,11 @@
+//! Streams read item by item.
+
+mod making;
+mod read;
+mod single;
+mod spelling;
+mod whole;
+
+pub use making::{damaged_stream, random_stream, valid_stream};
+pub use single::single_item;
+pub use spelling::{spell_integer_somehow, spell_somehow};

@@ -1,0 +1,126 @@
+//! All that the reading of an item answers and leaves behind.
+
+use std::fmt;
+
+use second::answers::ReadingRefused;
+use second::commands::Command;
+use second::forms::{form_of, Kind};
+
+use crate::archive;
+use crate::compare::case::in_decimal;
+use crate::compare::fence::{Fenced, Junk};
+use crate::compare::values::{four, numbers_and_list};
+
+const TEXT: usize = 1;
+const COMMAND: usize = 2;
+const REFUSED: usize = 3;
+const NOT_READ: usize = 4;
+
+#[derive(Clone, Debug, PartialEq)]
+pub struct Read {
+    pub number: u8,
+    item: [usize; 7],
+    values: [i32; 4],
+    pub point: [u16; 2],
+    list: Fenced<i32>,
+}
+
+impl Read {
+    pub fn before(point: [u16; 2], room: usize) -> Read {
+        Read {
+            number: 0,
+            item: [0; 7],
+            values: [0; 4],
+            point,
+            list: Fenced::room(room),
+        }
+    }
+
+    pub fn by_archive(&mut self, bytes: &[u8], start: usize) {
+        self.item = [usize::JUNK; 7];
+        self.values = [i32::JUNK; 4];
+        self.number = archive::next_item(
+            bytes,
+            start,
+            &mut self.point,
+            self.list.lent(),
+            &mut self.item,
+            &mut self.values,
+        );
+    }
+
+    /// "Each is written at every call, with 0 in what the answer does not have."
+    pub fn none_left(&mut self) {
+        self.number = 0;
+        self.item = [0; 7];
+        self.values = [0; 4];
+    }
+
+    pub fn text(&mut self, byte: u8, next: usize) {
+        self.none_left();
+        self.item = [TEXT, next, 0, usize::from(byte), 0, 0, 0];
+    }
+
+    pub fn refused(&mut self, refused: ReadingRefused, next: usize) {
+        self.none_left();
+        self.number = refused.refusal.number() as u8;
+        self.item = [REFUSED, next, refused.place, 0, 0, 0, 0];
+    }
+
+    pub fn not_read(&mut self, number: u8, place: usize) {
+        self.none_left();
+        self.number = number;
+        self.item = [NOT_READ, 0, place, 0, 0, 0, 0];
+    }
+
+    /// A whole command, or 7 where the lent list is too short for its entries.
+    pub fn command(&mut self, command: &Command, start: usize, next: usize) {
+        let (numbers, entries) = numbers_and_list(command);
+        let Some(front) = self.list.lent().get_mut(..entries.len()) else {
+            return self.not_read(7, start);
+        };
+        front.copy_from_slice(&entries);
+        let [first, second] = command.letters.map(usize::from);
+        let kind = kind_number(command);
+        self.number = 0;
+        self.item = [COMMAND, next, 0, first, second, kind, entries.len()];
+        self.values = four(&numbers);
+        if let Some(point) = command.last_point() {
+            self.point = [point.x as u16, point.y as u16];
+        }
+    }
+}
+
+/// The header's number of the kind of a command's parameters.
+fn kind_number(command: &Command) -> usize {
+    use Kind::{Array, Character, Integer, Point, Real, String};
+    let form = form_of(command.letters).expect("a command that was read is in the table");
+    match form.kinds {
+        [Integer] => 1,
+        [Integer, Integer] => 2,
+        [Integer, Integer, Integer] => 3,
+        [Point] => 4,
+        [Point, Point] => 5,
+        [Real] => 6,
+        [String] => 7,
+        [Array] => 8,
+        [Integer, Array] => 9,
+        [Integer, String] => 10,
+        [Character, Character] => 11,
+        _ => unreachable!("the header has no such kind"),
+    }
+}
+
+impl fmt::Display for Read {
+    fn fmt(&self, text: &mut fmt::Formatter) -> fmt::Result {
+        write!(
+            text,
+            "returns {}; item {}; values {}; point {}; list {}",
+            self.number,
+            in_decimal(&self.item),
+            in_decimal(&self.values),
+            in_decimal(&self.point),
+            self.list
+        )
+    }
+}

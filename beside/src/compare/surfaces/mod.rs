@@ -1,0 +1,9 @@
+//! Call sequences on a beam record and a surface.
+
+mod calls;
+mod making;
+mod reasons;
+mod sequence;
+mod side;
+
+pub use making::{beam_records, surfaces};

@@ -1,0 +1,6 @@
+//! The archive beside independent programs.
+
+pub mod archive;
+pub mod bench;
+pub mod compare;
+pub mod plain;

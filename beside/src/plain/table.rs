@@ -1,0 +1,56 @@
+//! The commands, and the kind of parameters of each.
+
+#[derive(Clone, Copy, Debug, PartialEq, Eq)]
+#[repr(u8)]
+pub enum Kind {
+    Integer = 1,
+    TwoIntegers = 2,
+    ThreeIntegers = 3,
+    Point = 4,
+    TwoPoints = 5,
+    Real = 6,
+    String = 7,
+    Array = 8,
+    IntegerThenArray = 9,
+    IntegerThenString = 10,
+    TwoCharacters = 11,
+}
+
+/// What one entry of a list is.
+#[derive(Clone, Copy, Debug, PartialEq, Eq)]
+pub enum Entry {
+    Character,
+    Integer,
+}
+
+impl Kind {
+    pub fn entries(self) -> Option<Entry> {
+        match self {
+            Kind::String | Kind::IntegerThenString => Some(Entry::Character),
+            Kind::Array | Kind::IntegerThenArray => Some(Entry::Integer),
+            _ => None,
+        }
+    }
+}
+
+pub fn begins_command(first: u8) -> bool {
+    matches!(first, b'I' | b'K' | b'L' | b'M' | b'N' | b'R')
+}
+
+/// Document 01 prints NX; the table of document 000 has NL, and wins.
+pub fn kind_of(letters: [u8; 2]) -> Option<Kind> {
+    match &letters {
+        b"KA" | b"KH" | b"KI" | b"KX" | b"LL" | b"LV" | b"NL" => Some(Kind::Integer),
+        b"NR" => Some(Kind::TwoIntegers),
+        b"RU" => Some(Kind::ThreeIntegers),
+        b"LF" | b"LG" | b"RH" => Some(Kind::Point),
+        b"RS" => Some(Kind::TwoPoints),
+        b"MR" => Some(Kind::Real),
+        b"LT" => Some(Kind::String),
+        b"RD" | b"RL" => Some(Kind::Array),
+        b"KD" | b"KO" => Some(Kind::IntegerThenArray),
+        b"RP" => Some(Kind::IntegerThenString),
+        b"IQ" => Some(Kind::TwoCharacters),
+        _ => None,
+    }
+}
