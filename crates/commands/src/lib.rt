@@ -169,7 +169,7 @@ pub fn kind_number(kind: Kind) -> u8
     }
 }
 
-fn kind_of_parameters(parameters: Parameters) -> Kind
+pub fn kind_of_parameters(parameters: Parameters) -> Kind
     ensures { λ r. ⌜ r ≡ kindFor parameters ⌝ }
 {
     match parameters {

@@ -1,28 +1,40 @@
 -- The slots of an item, by the item's case.
 use Prim.Native.Nat.{ℕ}
-use mathlib.Core.Path.{_≡_, sym, _∙_, ap}
+use mathlib.Core.Path.{_≡_, refl, sym, _∙_, ap}
 use mathlib.Core.List.{List, [], _∷_}
 use lib.IntN.{ℤ, pos}
 use Rattle.refusals.specs.declared.Refusal.{Refusal}
 use Rattle.refusals.specs.Refusals.{numberOf}
 use Rattle.memory.specs.declared.Point.{Point}
 use Rattle.memory.specs.declared.Remembered.{Remembered}
-use Rattle.table.specs.declared.Found.{Found}
-use Rattle.table.specs.declared.Found.the-variants.{Is, NoKind}
 use Rattle.table.specs.declared.Kind.{Kind}
-use Rattle.table.specs.Table.{kindOf}
 use Rattle.parameters.specs.declared.Real.{Real}
 use Rattle.parameters.specs.declared.Parameters.{Parameters}
 use Rattle.parameters.specs.declared.Parameters.the-variants.{Single, Double, Triple, OnePoint, Corners, Scale, Letters, Array, NumberedText, NumberedArray}
 use Rattle.parameters.specs.declared.Parameters.the-variants as P
-use Rattle.parameters.specs.Shapes.{valuesOf}
+use Rattle.parameters.specs.Shapes.{valuesOf, tailOf}
 use Rattle.commands.specs.declared.Command.{Command}
 use Rattle.commands.specs.Reading.{Told}
-use Rattle.commands.specs.Writing.{kindNumber}
+use Rattle.commands.specs.Writing.{kindFor, kindNumber}
 use Rattle.stream.specs.declared.Item.{Item}
 use Rattle.stream.specs.declared.Item.the-variants.{Nothing, Text, Done, Refused, NotRead}
 use Rattle.stream.specs.Items.{Itemed, itemOf, itemAt, toldItem, afterItem}
-use Rattle.stream_calls.specs.Slots.{keptIn, twoOf, itemKept, itemNumber, foundNumber, itemFields, fourOf, noValues, itemValues}
+use Rattle.stream_calls.specs.Slots.{keptIn, twoOf, itemKept, itemNumber, kindIn, commandFields, itemFields, fourOf, noValues, itemValues}
+
+-- the kind that the parameters are made as is the kind that they are
+pub kind-in : (ps : Parameters) → kindIn (valuesOf ps) (tailOf ps) ≡ kindNumber (kindFor ps)
+unfolding kindIn
+kind-in (Single a) = refl
+kind-in (Double a b) = refl
+kind-in (Triple a b c) = refl
+kind-in (OnePoint p) = refl
+kind-in (Corners p q) = refl
+kind-in (Scale r) = refl
+kind-in (Letters a b) = refl
+kind-in P.Text = refl
+kind-in Array = refl
+kind-in (NumberedText a) = refl
+kind-in (NumberedArray a) = refl
 
 module _ {i : Item} (e : i ≡ Nothing) where
   pub nothing-number : 0 ≡ itemNumber (itemOf i)
@@ -67,9 +79,9 @@ module _ {i : Item} {c : Command} {k n : ℕ} {m : Remembered} (e : i ≡ Done c
   unfolding itemOf itemKept
   done-kept old = rw e
 
-  pub done-fields : {x : ℕ} → x ≡ foundNumber (kindOf (c .first) (c .second)) → 2 ∷ n ∷ 0 ∷ c .first ∷ c .second ∷ x ∷ k ∷ [] ≡ itemFields (itemOf i)
+  pub done-fields : {l : List ℕ} → l ≡ commandFields (c .first) (c .second) (kindNumber (kindFor (c .parameters))) k n → l ≡ itemFields (itemOf i)
   unfolding itemOf itemFields
-  done-fields j = rw (e, j)
+  done-fields j = rw e (j ∙ ap (λ (x : ℕ). commandFields (c .first) (c .second) x k n) (sym (kind-in (c .parameters))))
 
   pub done-values : {l : List ℤ} → l ≡ fourOf (valuesOf (c .parameters)) → l ≡ itemValues (itemOf i)
   unfolding itemOf itemValues
@@ -108,17 +120,6 @@ module _ {i : Item} {f : Refusal} {p : ℕ} (e : i ≡ NotRead f p) where
   pub unread-values : noValues ≡ itemValues (itemOf i)
   unfolding itemOf itemValues
   unread-values = rw e
-
--- ---- the kind of the letters
-
-module _ (first second : ℕ) {f : Found} (e : f ≡ kindOf first second) where
-  pub found-number : {kind : Kind} → f ≡ Is kind → {x : ℕ} → x ≡ kindNumber kind → x ≡ foundNumber (kindOf first second)
-  unfolding foundNumber
-  found-number g j = rw (sym e, g) j
-
-  pub found-none : f ≡ NoKind → 0 ≡ foundNumber (kindOf first second)
-  unfolding foundNumber
-  found-none g = rw (sym e, g)
 
 -- ---- the exported call: read with the record that the two numbers stand for
 
@@ -187,3 +188,9 @@ module _ {ps : Parameters} where
   pub four-numbered-array : {a : ℤ} → ps ≡ NumberedArray a → a ∷ pos 0 ∷ pos 0 ∷ pos 0 ∷ [] ≡ fourOf (valuesOf ps)
   unfolding fourOf
   four-numbered-array e = rw e
+
+-- ---- a command's slots, as the code numbers its kind
+
+pub command-slots : (c : Command) {kind : Kind} {x : ℕ} (k n : ℕ) → kind ≡ kindFor (c .parameters) → x ≡ kindNumber kind
+    → 2 ∷ n ∷ 0 ∷ c .first ∷ c .second ∷ x ∷ k ∷ [] ≡ commandFields (c .first) (c .second) (kindNumber (kindFor (c .parameters))) k n
+command-slots c k n ek ex = ap (λ (y : ℕ). 2 ∷ n ∷ 0 ∷ c .first ∷ c .second ∷ y ∷ k ∷ []) (ex ∙ ap kindNumber ek)

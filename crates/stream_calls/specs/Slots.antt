@@ -1,15 +1,12 @@
 -- An item as the header's slots hold it: item[7], values[4] and the remembered point as two numbers.
-use Prim.Native.Nat.{ℕ}
+use Prim.Native.Nat.{ℕ, _+_}
 use mathlib.Core.List.{List, [], _∷_, _++_}
-use lib.ListN.{getD, take}
+use lib.ListN.{length, getD, take}
 use lib.IntN.{ℤ, pos}
 use Rattle.memory.specs.declared.Remembered.{Remembered}
-use Rattle.table.specs.declared.Found.{Found}
-use Rattle.table.specs.declared.Found.the-variants.{Is, NoKind}
-use Rattle.table.specs.Table.{kindOf}
-use Rattle.parameters.specs.Shapes.{Value, number, scaled, place}
+use Rattle.parameters.specs.declared.Entry.the-variants.{AnInteger, ACharacter}
+use Rattle.parameters.specs.Shapes.{Value, number, scaled, place, Tail, none, counted}
 use Rattle.commands.specs.Reading.{Told}
-use Rattle.commands.specs.Writing.{kindNumber}
 use Rattle.stream.specs.Items.{Itemed, nothing, text, command, trouble, unread}
 
 -- ---- the remembered point
@@ -39,14 +36,32 @@ itemNumber (unread e p) = e
 
 -- ---- item: what it is, the next start, the refusal's place, a byte or the letters, the kind of parameters, the entries
 
-unfoldable pub foundNumber : Found → ℕ
-foundNumber (Is kind) = kindNumber kind
-foundNumber NoKind = 0
+-- the kind of the parameters by what they are made of, numbered as in the header: so many integers, a point or two, a real, characters; the
+-- list alone, or behind an integer
+abbrev pub fixedKind : List Value → ℕ
+fixedKind [] = 0
+fixedKind (number AnInteger v ∷ vs) = 1 + length vs
+fixedKind (number ACharacter v ∷ vs) = 11
+fixedKind (scaled m x ∷ vs) = 6
+fixedKind (place p ∷ []) = 4
+fixedKind (place p ∷ q ∷ vs) = 5
+
+abbrev pub listKind : (alone behind : ℕ) → List Value → ℕ
+listKind alone behind [] = alone
+listKind alone behind (v ∷ vs) = behind
+
+unfoldable pub kindIn : List Value → Tail → ℕ
+kindIn vs none = fixedKind vs
+kindIn vs (counted AnInteger) = listKind 8 9 vs
+kindIn vs (counted ACharacter) = listKind 7 10 vs
+
+abbrev pub commandFields : (first second kind count next : ℕ) → List ℕ
+commandFields first second kind count next = 2 ∷ next ∷ 0 ∷ first ∷ second ∷ kind ∷ count ∷ []
 
 unfoldable pub itemFields : Itemed Told → List ℕ
 itemFields nothing = 0 ∷ 0 ∷ 0 ∷ 0 ∷ 0 ∷ 0 ∷ 0 ∷ []
 itemFields (text b n) = 1 ∷ n ∷ 0 ∷ b ∷ 0 ∷ 0 ∷ 0 ∷ []
-itemFields (command t) = 2 ∷ t .next ∷ 0 ∷ t .first ∷ t .second ∷ foundNumber (kindOf (t .first) (t .second)) ∷ t .count ∷ []
+itemFields (command t) = commandFields (t .first) (t .second) (kindIn (t .values) (t .tail)) (t .count) (t .next)
 itemFields (trouble e p n kept) = 3 ∷ n ∷ p ∷ 0 ∷ 0 ∷ 0 ∷ 0 ∷ []
 itemFields (unread e p) = 4 ∷ 0 ∷ p ∷ 0 ∷ 0 ∷ 0 ∷ 0 ∷ []
 

@@ -6,11 +6,10 @@ ghost use lib.ListN.{length};
 ghost use lib.IntN.{pos};
 ghost use Rattle.refusals.specs.Answers.{number, valueOr};
 ghost use Rattle.wire.specs.Sending.{afterWrite};
-ghost use Rattle.table.specs.Table.{kindOf};
 ghost use Rattle.parameters.specs.Shapes.{valuesOf};
-ghost use Rattle.commands.specs.Writing.{spellCommand, writeCommand};
-ghost use Rattle.stream.specs.Items.{itemOf, itemAt, toldItem, afterItem};
-ghost use Rattle.stream_calls.specs.Slots.{keptIn, twoOf, itemKept, itemNumber, foundNumber, itemFields, fourOf, itemValues};
+ghost use Rattle.commands.specs.Writing.{kindFor, kindNumber, spellCommand, writeCommand};
+ghost use Rattle.stream.specs.Items.{itemAt, toldItem, afterItem};
+ghost use Rattle.stream_calls.specs.Slots.{keptIn, twoOf, itemKept, itemNumber, commandFields, itemFields, fourOf, itemValues};
 ghost use Rattle.stream_calls.specs.Given.{ofKind, ofFound, commandGiven, keptAfter};
 use commands::Command;
 use memory::Point;
@@ -22,6 +21,9 @@ use stream::Item;
 use table::Found;
 use table::Kind;
 use wire::Written;
+
+// "0 means done"
+const DONE: u8 = 0;
 
 // ---- the remembered point
 
@@ -43,63 +45,23 @@ fn two_of(kept: Remembered) -> [u16; 2]
 
 // ---- the next item
 
-fn item_number(item: Item) -> u8
-    ensures { λ r. ⌜ r ≡ itemNumber (itemOf item) ⌝ }
+// A whole command's slots: what it is, the next start, no refusal's place, its letters, the kind of its parameters, its entries.
+fn command_fields(command: Command, count: usize, next: usize) -> [usize; 7]
+    ensures { λ r. ⌜ r ≡ commandFields (command .first) (command .second) (kindNumber (kindFor (command .parameters))) count next ⌝ }
 {
-    match item {
-        Item::Nothing => 0,
-        Item::Text(_, _) => 0,
-        Item::Done(_, _, _, _) => 0,
-        Item::Refused(e, _, _, _) => refusals::number(e),
-        Item::NotRead(e, _) => refusals::number(e),
-    }
-}
-
-fn item_kept(kept: Remembered, item: Item) -> Remembered
-    ensures { λ r. ⌜ r ≡ itemKept kept (itemOf item) ⌝ }
-{
-    match item {
-        Item::Nothing => kept,
-        Item::Text(_, _) => kept,
-        Item::Done(_, _, _, after) => after,
-        Item::Refused(_, _, _, after) => after,
-        Item::NotRead(_, _) => kept,
-    }
-}
-
-// The number of the kind of parameters that these letters have.
-fn kind_number(first: u8, second: u8) -> u8
-    ensures { λ r. ⌜ r ≡ foundNumber (kindOf first second) ⌝ }
-{
-    match table::kind_of(first, second) {
-        Found::Is(kind) => commands::kind_number(kind),
-        Found::NoKind => 0,
-    }
-}
-
-fn item_fields(item: Item) -> [usize; 7]
-    ensures { λ r. ⌜ r ≡ itemFields (itemOf item) ⌝ }
-{
-    match item {
-        Item::Nothing => [0, 0, 0, 0, 0, 0, 0],
-        Item::Text(b, next) => [1, next, 0, b as usize, 0, 0, 0],
-        Item::Done(command, count, next, _) => {
-            let first = command.first;
-            let second = command.second;
-            let kind = kind_number(first, second);
-            [
-                2,
-                next,
-                0,
-                first as usize,
-                second as usize,
-                kind as usize,
-                count,
-            ]
-        }
-        Item::Refused(_, place, next, _) => [3, next, place, 0, 0, 0, 0],
-        Item::NotRead(_, place) => [4, 0, place, 0, 0, 0, 0],
-    }
+    let first = command.first;
+    let second = command.second;
+    let parameters = command.parameters;
+    let kind = commands::kind_number(commands::kind_of_parameters(parameters));
+    [
+        2,
+        next,
+        0,
+        first as usize,
+        second as usize,
+        kind as usize,
+        count,
+    ]
 }
 
 fn value_of(coordinate: u16) -> i32
@@ -126,21 +88,6 @@ fn four_of(parameters: Parameters) -> [i32; 4]
     }
 }
 
-fn item_values(item: Item) -> [i32; 4]
-    ensures { λ r. ⌜ r ≡ itemValues (itemOf item) ⌝ }
-{
-    match item {
-        Item::Nothing => [0, 0, 0, 0],
-        Item::Text(_, _) => [0, 0, 0, 0],
-        Item::Done(command, _, _, _) => {
-            let parameters = command.parameters;
-            four_of(parameters)
-        }
-        Item::Refused(_, _, _, _) => [0, 0, 0, 0],
-        Item::NotRead(_, _) => [0, 0, 0, 0],
-    }
-}
-
 #[no_mangle]
 pub extern "C" fn ardh_next_item(
     bytes: &[u8],
@@ -157,12 +104,39 @@ pub extern "C" fn ardh_next_item(
     ensures { λ _. ⌜ now (list .exit) ≡ afterItem (itemAt (keptIn (now (point .entry))) (now (bytes .entry)) start (length (now (list .entry)))) (now (list .entry)) ⌝ }
 {
     let kept = kept_in(point);
-    let read = stream::read_item(kept, bytes, start, list);
-    let after = item_kept(kept, read);
-    *item = item_fields(read);
-    *values = item_values(read);
-    *point = two_of(after);
-    item_number(read)
+    match stream::read_item(kept, bytes, start, list) {
+        Item::Nothing => {
+            *item = [0, 0, 0, 0, 0, 0, 0];
+            *values = [0, 0, 0, 0];
+            *point = two_of(kept);
+            DONE
+        }
+        Item::Text(b, next) => {
+            *item = [1, next, 0, b as usize, 0, 0, 0];
+            *values = [0, 0, 0, 0];
+            *point = two_of(kept);
+            DONE
+        }
+        Item::Done(command, count, next, after) => {
+            let parameters = command.parameters;
+            *item = command_fields(command, count, next);
+            *values = four_of(parameters);
+            *point = two_of(after);
+            DONE
+        }
+        Item::Refused(e, place, next, before) => {
+            *item = [3, next, place, 0, 0, 0, 0];
+            *values = [0, 0, 0, 0];
+            *point = two_of(before);
+            refusals::number(e)
+        }
+        Item::NotRead(e, place) => {
+            *item = [4, 0, place, 0, 0, 0, 0];
+            *values = [0, 0, 0, 0];
+            *point = two_of(kept);
+            refusals::number(e)
+        }
+    }
 }
 
 // ---- writing a command
@@ -235,7 +209,7 @@ pub extern "C" fn ardh_write_command(
             let behind = commands::remembered_after(kept, parameters);
             *point = two_of(behind);
             *written = n;
-            0
+            DONE
         }
         Written::NotWritten(e) => {
             *point = two_of(kept);
