@@ -3,21 +3,14 @@
 
 program="$root/target/bin/$crate"
 
-refuse() {
-    printf '%s: %s\n' "$command" "$1" >&2
-    exit 2
-}
+source "$root/desk/common.sh"
 
 is_built() {
-    [[ -x $program ]] || return 1
-    local newer
-    newer=$(find "$root/crates.txt" "$root"/crates/*/src -type f -newer "$program" -print -quit)
-    [[ -z $newer ]]
+    is_current "$program"
 }
 
 build() {
-    command -v rt >/dev/null || refuse "the toolchain's command rt is not found; install Rattle and put rt on the PATH"
-    printf '%s: the program is being built and proved; the first time this takes a few minutes\n' "$command" >&2
+    needs_rt program
     local said
     if ! said=$(cd "$root" && rt check "$crate" 2>&1) || [[ ! -x $program ]]; then
         printf '%s\n' "$said" >&2

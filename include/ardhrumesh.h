@@ -1,12 +1,13 @@
 /*
  * The calls of the unit for programs in C and in any language that can call C.
  *
- * Link with libardhrumesh.a, which ./archive writes. No call allocates, keeps anything between calls, prints, or fails to return.
+ * Link with libardhrumesh.a, which ./archive writes, for x86-64 Linux; of the C library it takes memcpy and memset. No call allocates, keeps anything between calls, prints, or fails to return.
  *
  * WHAT A CALL ANSWERS
  *   Every call returns the number of its refusal, 0 when it is done (ARDH_... below), and answers for all values of its arguments.
- *   Refused, a call leaves all that it was lent as it was. Its answer slots (item, values, place, count, counts, written) are no loans:
- *   each is written at every call, with 0 in what the answer does not have.
+ *   Refused, a call leaves all that it was lent as it was. Its answer slots are no loans: each is written at every call, with 0 in what the
+ *   answer does not have. They are item and values of ardh_next_item, value, count, place and next of the report calls, written, count of the
+ *   pixel writes, place of ardh_look_up, counts of ardh_expand, and the record of ardh_fresh.
  *
  * WHO OWNS WHAT
  *   Everything is the caller's: a call borrows for as long as it runs, and keeps no pointer. A lent stretch is a pointer and its number of
@@ -145,7 +146,10 @@ uint8_t ardh_step(size_t w, size_t h, size_t record[7]);
 uint8_t ardh_draw_raster(uint8_t *surface, size_t length, size_t w, size_t h, size_t record[7], int32_t n, const int32_t *characters,
                          size_t entries, size_t *count);
 
-/* RL: runs by codes. Returns 11, 8 for the record, 9, 8 for a code outside 0..32767 or more than 256 of them; or 0. */
+/*
+ * RL: runs by codes, each length times 2^bits plus colour, on the surface, whose length must be w times h. *count is the number of pixels.
+ * Returns 11, 8 for the record, 9, 8 for a code outside 0..32767 or more than 256 of them; or 0.
+ */
 uint8_t ardh_draw_runs(uint8_t *surface, size_t length, size_t w, size_t h, size_t record[7], const int32_t *codes, size_t entries,
                        size_t *count);
 
