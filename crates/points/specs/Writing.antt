@@ -14,6 +14,10 @@ use Rattle.points.specs.Layout.{bytesOf}
 abbrev pub part : Bool → ℕ → List ℕ
 part leftOut b = pick leftOut [] (b ∷ [])
 
+-- HiY, Extra and LoY, where it is settled whether LoY is left out
+abbrev pub upperBytes : (last this : PointBytes) → (leftOut : Bool) → List ℕ
+upperBytes a b leftOut = part (eqb (a .hiy) (b .hiy)) (b .hiy) ++ part (eqb (a .extra) (b .extra)) (b .extra) ++ part leftOut (b .loy)
+
 -- LoY may be left out only with Extra and HiX: "Extra needs LoY after it, and HiX needs LoY before it"
 unfoldable pub spellBytes : (last this : PointBytes) → List ℕ
 spellBytes a b =

@@ -9,7 +9,7 @@ ghost use Rattle.memory.specs.Memory.{inside};
 ghost use Rattle.wire.specs.Sending.{sent, afterWrite, writtenOf, Spells, poured};
 ghost use Rattle.points.specs.Layout.{Inside, bytesOf, coordinates};
 ghost use Rattle.points.specs.Reading.{pointOf, endsAt, lastAt, afterLoY, afterUpper, afterHiY, pointFrom, pointAt};
-ghost use Rattle.points.specs.Writing.{part, spellBytes, spellPoint, writePoint};
+ghost use Rattle.points.specs.Writing.{part, upperBytes, spellBytes, spellPoint, writePoint};
 use memory::Point;
 use memory::Remembered;
 use refusals::Refusal;
@@ -267,6 +267,51 @@ fn spell(a: PointBytes, b: PointBytes) -> Spelling
     with_byte(four, false, b.lox)
 }
 
+// One byte of a point behind `n` others, or nothing where it is left out. Answers how many they then are.
+fn pour_part(kept: Remembered, n: usize, omit: bool, b: u8, out: &mut [u8], at: usize) -> usize
+    requires { ⌜ n ≤ 8 ⌝ }
+    ensures { λ r. ⌜ (r ≡ n + length (sent kept (part omit b))) × (r ≤ n + 2) ⌝ }
+    ensures { λ _. ⌜ now (out .exit) ≡ sets (now (out .entry)) (at + n) (sent kept (part omit b)) ⌝ }
+{
+    if omit {
+        return n;
+    }
+    let m = wire::pour_behind(kept, n, b, out, at);
+    n + m
+}
+
+// HiY, Extra and LoY, each by value to its place: bytes that are stored to be read again are slow.
+fn pour_upper(
+    kept: Remembered,
+    a: PointBytes,
+    b: PointBytes,
+    loy: bool,
+    out: &mut [u8],
+    at: usize,
+) -> usize
+    ensures { λ r. ⌜ (r ≡ length (sent kept (upperBytes a b loy))) × (r ≤ 6) ⌝ }
+    ensures { λ _. ⌜ now (out .exit) ≡ sets (now (out .entry)) at (sent kept (upperBytes a b loy)) ⌝ }
+{
+    let hiy = a.hiy == b.hiy;
+    let extra = a.extra == b.extra;
+    let one = pour_part(kept, 0, hiy, b.hiy, out, at);
+    let two = pour_part(kept, one, extra, b.extra, out, at);
+    pour_part(kept, two, loy, b.loy, out, at)
+}
+
+// What is sent of a point's bytes `b`, where those of the last point were `a`: as `spell` has it.
+fn pour_bytes(kept: Remembered, a: PointBytes, b: PointBytes, out: &mut [u8], at: usize) -> usize
+    ensures { λ r. ⌜ (r ≡ length (sent kept (spellBytes a b))) × (now (out .exit) ≡ sets (now (out .entry)) at (sent kept (spellBytes a b))) ⌝ }
+{
+    let extra = a.extra == b.extra;
+    let hix = a.hix == b.hix;
+    let same = both(extra, hix);
+    let without_loy = both(a.loy == b.loy, same);
+    let upper = pour_upper(kept, a, b, without_loy, out, at);
+    let most = pour_part(kept, upper, hix, b.hix, out, at);
+    pour_part(kept, most, false, b.lox, out, at)
+}
+
 // 8 for a point or a remembered point outside 0..4095, then 7.
 pub fn write_point(kept: Remembered, point: Point, out: &mut [u8], at: usize) -> Written
     ensures { λ r. ⌜ (writtenOf r ≡ writePoint kept point (length (now (out .entry))) at) × (now (out .exit) ≡ afterWrite (writtenOf r) (sent kept (spellPoint (kept .point) point)) (now (out .entry)) at) ⌝ }
@@ -287,10 +332,9 @@ pub fn pour_point(kept: Remembered, point: Point, out: &mut [u8], at: usize) -> 
 {
     let remembered = kept.point;
     if both(memory::is_inside(remembered), memory::is_inside(point)) {
-        let w = spell(bytes_of(remembered), bytes_of(point));
-        let bytes = w.bytes;
-        let len = w.len;
-        return wire::pour(kept, &bytes[..len], out, at);
+        let last = bytes_of(remembered);
+        let this = bytes_of(point);
+        return pour_bytes(kept, last, this, out, at);
     }
     0
 }

@@ -105,7 +105,11 @@ pub sent-plain : (kept : Remembered) (w : List ℕ) → isPlain kept ≡ true �
 unfolding sent
 sent-plain kept w e = refl
 
-sent-long : (kept : Remembered) (w : List ℕ) → length (sent kept w) ≤ 2 * length w
+pub sent-none : (kept : Remembered) → sent kept [] ≡ []
+unfolding sent
+sent-none kept = refl
+
+pub sent-long : (kept : Remembered) (w : List ℕ) → length (sent kept w) ≤ 2 * length w
 unfolding sent
 sent-long kept w = omega arith
 
@@ -136,25 +140,25 @@ two-fit kept a b = sum-fits kept (a ∷ []) (b ∷ []) (omega arith)
 pub three-fit : (kept : Remembered) (a b d : ℕ) {n m : ℕ} → n ≡ length (sent kept (a ∷ b ∷ [])) → m ≡ length (sent kept (d ∷ [])) → Fits w64 (n + m)
 three-fit kept a b d = sum-fits kept (a ∷ b ∷ []) (d ∷ []) (omega arith)
 
--- one more byte behind those of v
-more-size : (kept : Remembered) (v : List ℕ) (b : ℕ) {n m : ℕ} → n ≡ length (sent kept v) → m ≡ length (sent kept (b ∷ [])) → n + m ≡ length (sent kept (v ++ (b ∷ [])))
-more-size kept v b e f = rw (e, f) (sym (ap length (sent-append kept v (b ∷ [])) ∙ length-append (sent kept v) (sent kept (b ∷ []))))
+-- what is sent behind v
+pub more-size : (kept : Remembered) (v w : List ℕ) {n m : ℕ} → n ≡ length (sent kept v) → m ≡ length (sent kept w) → n + m ≡ length (sent kept (v ++ w))
+more-size kept v w e f = rw (e, f) (sym (ap length (sent-append kept v w) ∙ length-append (sent kept v) (sent kept w)))
 
-more-stands : (kept : Remembered) (v : List ℕ) (b : ℕ) (l : List ℕ) (at : ℕ) {n : ℕ} {m o : List ℕ} → n ≡ length (sent kept v) → m ≡ sets l at (sent kept v) → o ≡ sets m (at + n) (sent kept (b ∷ [])) → o ≡ sets l at (sent kept (v ++ (b ∷ [])))
-more-stands kept v b l at {n} {m} {o} e f g =
-    g ∙ rw (f, e) (sets-append (sent kept v) (sent kept (b ∷ [])) l at) ∙ ap (λ (x : List ℕ). sets l at x) (sym (sent-append kept v (b ∷ [])))
+pub more-stands : (kept : Remembered) (v w l : List ℕ) (at : ℕ) {n : ℕ} {m o : List ℕ} → n ≡ length (sent kept v) → m ≡ sets l at (sent kept v) → o ≡ sets m (at + n) (sent kept w) → o ≡ sets l at (sent kept (v ++ w))
+more-stands kept v w l at {n} {m} {o} e f g =
+    g ∙ rw (f, e) (sets-append (sent kept v) (sent kept w) l at) ∙ ap (λ (x : List ℕ). sets l at x) (sym (sent-append kept v w))
 
 pub two-size : (kept : Remembered) (a b : ℕ) {n m : ℕ} → n ≡ length (sent kept (a ∷ [])) → m ≡ length (sent kept (b ∷ [])) → n + m ≡ length (sent kept (a ∷ b ∷ []))
-two-size kept a b = more-size kept (a ∷ []) b
+two-size kept a b = more-size kept (a ∷ []) (b ∷ [])
 
 pub two-stand : (kept : Remembered) (a b : ℕ) (l : List ℕ) (at : ℕ) {n : ℕ} {m o : List ℕ} → n ≡ length (sent kept (a ∷ [])) → m ≡ sets l at (sent kept (a ∷ [])) → o ≡ sets m (at + n) (sent kept (b ∷ [])) → o ≡ sets l at (sent kept (a ∷ b ∷ []))
-two-stand kept a b = more-stands kept (a ∷ []) b
+two-stand kept a b = more-stands kept (a ∷ []) (b ∷ [])
 
 pub three-size : (kept : Remembered) (a b d : ℕ) {n m : ℕ} → n ≡ length (sent kept (a ∷ b ∷ [])) → m ≡ length (sent kept (d ∷ [])) → n + m ≡ length (sent kept (a ∷ b ∷ d ∷ []))
-three-size kept a b d = more-size kept (a ∷ b ∷ []) d
+three-size kept a b d = more-size kept (a ∷ b ∷ []) (d ∷ [])
 
 pub three-stand : (kept : Remembered) (a b d : ℕ) (l : List ℕ) (at : ℕ) {n : ℕ} {m o : List ℕ} → n ≡ length (sent kept (a ∷ b ∷ [])) → m ≡ sets l at (sent kept (a ∷ b ∷ [])) → o ≡ sets m (at + n) (sent kept (d ∷ [])) → o ≡ sets l at (sent kept (a ∷ b ∷ d ∷ []))
-three-stand kept a b d = more-stands kept (a ∷ b ∷ []) d
+three-stand kept a b d = more-stands kept (a ∷ b ∷ []) (d ∷ [])
 
 pub ruleset ones = (one-size, one-past, one-full, one-stands, one-first)
 

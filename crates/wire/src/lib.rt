@@ -118,7 +118,7 @@ pub fn pour(kept: Remembered, w: &[u8], out: &mut [u8], at: usize) -> usize
 
 // One byte of a parameter, as it is sent, behind the `n` bytes from `at` on, where there is room. It goes by value: bytes that are
 // stored only to be read again are slow to fetch.
-fn pour_behind(kept: Remembered, n: usize, b: u8, out: &mut [u8], at: usize) -> usize
+pub fn pour_behind(kept: Remembered, n: usize, b: u8, out: &mut [u8], at: usize) -> usize
     ensures { λ r. ⌜ (r ≡ length (sent kept (b ∷ []))) × (now (out .exit) ≡ sets (now (out .entry)) (at + n) (sent kept (b ∷ []))) ⌝ }
 {
     let room = out.len();

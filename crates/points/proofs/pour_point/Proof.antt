@@ -1,7 +1,6 @@
-use lib.Seq.{length-take-le}
-use Rattle.wire.proofs.Laying.{pours-size, pours-stand, none-size, none-stand, sent-same}
-use Rattle.points.proofs.Spelling.{both-tested, point-spelled}
+use Rattle.wire.proofs.Laying.{pours-size, pours-stand, none-size, none-stand}
 use Rattle.points.proofs.Stepping.{tested-first, tested-second}
+use Rattle.points.proofs.Spelling.{both-tested, sent-point}
 use borrow.Author.Needs.{needs}
 use Rattle.points.proofs.pour_point.Statement.{statement}
 use Rattle.points.proofs.pour_point.Tie as tie
@@ -21,23 +20,14 @@ bytes-of-requires c κs = search (needs, tested-first)
 bytes-of-requires-2 : tie.Need-bytes-of-requires-2
 bytes-of-requires-2 c κs = search (needs, tested-second)
 
-spell-requires : tie.Need-spell-requires
-spell-requires c κs = search needs
-
-array-share-prefix-bytes : tie.Need-array-share-prefix-bytes
-array-share-prefix-bytes c = search needs
-
-slice-aggregate-pour : tie.Need-slice-aggregate-pour
-slice-aggregate-pour c = search (needs, length-take-le)
-
-pour-requires : tie.Need-pour-requires
-pour-requires c κs = search needs
+pour-bytes-requires : tie.Need-pour-bytes-requires
+pour-bytes-requires c κs = search needs
 
 same-length : tie.Need-same-length
 same-length c = search needs
 
 returns : tie.Need-returns
-returns c = search (needs, pours-size, pours-stand, sent-same, both-tested, point-spelled)
+returns c = search (needs, pours-size, pours-stand, both-tested, sent-point)
 
 returns-2 : tie.Need-returns-2
 returns-2 c = search (needs, none-size, none-stand, both-tested)
@@ -51,10 +41,7 @@ pour-point-spec =
     both-requires
     bytes-of-requires
     bytes-of-requires-2
-    spell-requires
-    array-share-prefix-bytes
-    slice-aggregate-pour
-    pour-requires
+    pour-bytes-requires
     same-length
     returns
     returns-2)
