@@ -1,5 +1,2 @@
 pub mod Heads
-pub mod Fitting
-pub mod Pouring
-pub mod Lists
 pub mod Coinciding

@@ -45,6 +45,9 @@ module _ (v : ℤ) (f : SFits w32 v) {s : Bool} (es : s ≡ isNegative (toZ w32 
 pub ruleset sides = (negative, above, inside)
 
 -- both coordinates
+pub point-given : (x y : ℤ) → SFits w32 x → SFits w32 y → {p : Point} → p ≡ pointOf (toZ w32 (ofZ w32 x)) (toZ w32 (ofZ w32 y)) → p ≡ pointOf x y
+point-given x y fx fy e = e ∙ rw (toZ-ofZ fx, toZ-ofZ fy)
+
 pub point-so : (x y : ℤ) → SFits w32 x → SFits w32 y → {a b : ℕ} → a ≡ coordinateOf (toZ w32 (ofZ w32 x)) → b ≡ coordinateOf (toZ w32 (ofZ w32 y))
     → _≡_ {A = Point} (record { x = a; y = b }) (pointOf x y)
-point-so x y fx fy ea eb = rw (rw (toZ-ofZ fx) at ea, rw (toZ-ofZ fy) at eb)
+point-so x y fx fy ea eb = point-given x y fx fy (rw (ea, eb))

@@ -32,7 +32,8 @@ use Rattle.parameters.specs.Shapes.{Part, single, real, point, Tail, none, coun
 use Rattle.parameters.specs.Looking.{Pair, pairAt, Fixed, partAt, fixedAt, tailAt, Parsed, parametersAt}
 use Rattle.points.specs.Reading.{byKind, notAllowed, endsAt, loX, lastAt, afterLoY, afterUpper, afterHiY, pointFrom, pointAt}
 use Rattle.commands.specs.Reading.{letterAt, Letters, completed, secondAt, headAt, Meaning, bodyAt, commandAt}
-use Rattle.commands.specs.Writing.{isValue, areValues, afterValue, afterValues}
+use Rattle.writable.specs.Writable.{isValue, areValues}
+use Rattle.writing.specs.Writing.{afterValue, afterValues}
 use Rattle.laws.proofs.RoundTrip.{still-inside}
 use Rattle.laws.proofs.Shortest.{FixedShown, part-good, HeadShown, head-good, letter-good}
 

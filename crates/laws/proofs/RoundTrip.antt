@@ -39,7 +39,8 @@ use Rattle.parameters.specs.Shapes.{Part, single, real, point, Tail, none, coun
 use Rattle.parameters.specs.Looking.{pairAt, Fixed, partAt, fixedAt, tailAt, Parsed, parametersAt, entryIn}
 use Rattle.commands.specs.declared.Command.{Command}
 use Rattle.commands.specs.Reading.{letterAt, secondAt, headAt, Meaning, meaning, bodyAt, commandAt}
-use Rattle.commands.specs.Writing.{kindFor, kindNumber, sameKind, isKind, isEntry, areEntries, isValue, areValues, isTail, isCommand, spellEntry, spellEntries, spellValue, afterValue, spellValues, afterValues, spellTail, spellParameters, spellCommand}
+use Rattle.writable.specs.Writable.{kindFor, kindNumber, sameKind, isKind, isEntry, areEntries, isValue, areValues, isTail, fits, isCommand}
+use Rattle.writing.specs.Writing.{spellEntry, spellEntries, spellValue, afterValue, spellValues, afterValues, spellTail, spellParameters, spellCommand}
 
 -- what `Reads` says, taken apart
 abbrev Got : {A : Type 0} → Answer (Read A) → A → ℕ → Type 0
@@ -250,7 +251,7 @@ pub record Back (kept : Remembered) (c : Command) (es : List ℤ) (s : List ℕ)
 
 module _ (kept : Remembered) (c : Command) (es : List ℤ) (ok : isCommand kept c es ≡ true) (s : List ℕ) (start : ℕ) (st : Stands s start (spellCommand kept c es)) where
   kind-ok : isKind (c .first) (c .second) (c .parameters) ≡ true
-  unfolding isCommand
+  unfolding isCommand fits
   kind-ok = and-left (isKind (c .first) (c .second) (c .parameters)) _ ok
 
   found : kindOf (c .first) (c .second) ≡ Is (kindFor (c .parameters))
@@ -288,7 +289,7 @@ module _ (kept : Remembered) (c : Command) (es : List ℤ) (ok : isCommand kept 
 
   -- the three tests behind that of the letters
   tested : inside (kept .point) && (areValues (valuesOf (c .parameters)) && isTail (tailOf (c .parameters)) es) ≡ true
-  unfolding isCommand
+  unfolding isCommand fits
   tested = and-right (isKind (c .first) (c .second) (c .parameters)) _ ok
 
   last-inside : inside (kept .point) ≡ true

@@ -35,7 +35,8 @@ use Rattle.parameters.specs.Shapes.{Part, single, real, point, Tail, none, coun
 use Rattle.parameters.specs.Looking.{Pair, pairAt, Fixed, partAt, fixedAt, tailAt, Parsed, parametersAt, entryIn, entriesOf}
 use Rattle.commands.specs.declared.Command.{Command}
 use Rattle.commands.specs.Reading.{letterAt, Letters, completed, secondAt, headAt, Meaning, meaning, bodyAt, commandAt}
-use Rattle.commands.specs.Writing.{kindFor, kindNumber, isKind, isEntry, areEntries, isValue, areValues, isTail, isCommand, spellEntry, spellEntries, spellValue, afterValue, spellValues, afterValues, spellTail, spellParameters, spellCommand}
+use Rattle.writable.specs.Writable.{kindFor, kindNumber, isKind, isEntry, areEntries, isValue, areValues, isTail, fits, isCommand}
+use Rattle.writing.specs.Writing.{spellEntry, spellEntries, spellValue, afterValue, spellValues, afterValues, spellTail, spellParameters, spellCommand}
 use Rattle.laws.proofs.RoundTrip.{partOf, shape-is}
 
 -- ---- one entry
@@ -423,7 +424,7 @@ pub record SaysSo (c : Command) (m : Meaning) : Type 0 where
   pub tail-is : tailOf (c .parameters) ≡ m .tail
 
 pub read-writable : (kept : Remembered) (s : List ℕ) (start room : ℕ) (c : Command) {m : Meaning} → inside (kept .point) ≡ true → commandAt kept s start room ≡ done m → SaysSo c m → isCommand kept c (m .entries) ≡ true
-unfolding isCommand isKind
+unfolding isCommand fits isKind
 read-writable kept s start room c {m} i e q =
     let f = command-shown kept s start room e in
     let ps = c .parameters in

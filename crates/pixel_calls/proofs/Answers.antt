@@ -10,7 +10,6 @@ use mir.Facts.{toZ-ofZ}
 use Rattle.refusals.specs.declared.Refusal.{Refusal}
 use Rattle.refusals.specs.Refusals.{numberOf}
 use Rattle.memory.specs.declared.Point.{Point}
-use Rattle.coordinates.specs.Coordinates.{pointOf}
 use Rattle.beam.specs.declared.Beam.{Beam}
 use Rattle.beam.specs.declared.Setting.{Setting}
 use Rattle.beam.specs.declared.Setting.the-variants.{Set, NotSet}
@@ -85,9 +84,6 @@ module _ {s : Drawing} {b : Beam} where
     not-drawn-fields j = rw e j
 
 -- ---- what is handed in
-
-pub point-given : (x y : ℤ) → SFits w32 x → SFits w32 y → {p : Point} → p ≡ pointOf (toZ w32 (ofZ w32 x)) (toZ w32 (ofZ w32 y)) → p ≡ pointOf x y
-point-given x y fx fy e = e ∙ rw (toZ-ofZ fx, toZ-ofZ fy)
 
 module _ (w h : ℕ) (l : List ℕ) {b : Beam} (eb : b ≡ beamIn l) {q : Settled} where
   pub bits-given : (i j k : ℤ) → SFits w32 i → SFits w32 j → SFits w32 k

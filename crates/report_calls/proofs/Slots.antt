@@ -9,9 +9,6 @@ use mir.Facts.{toZ-ofZ}
 use Rattle.refusals.specs.declared.Refusal.{Refusal}
 use Rattle.refusals.specs.Refusals.{numberOf}
 use Rattle.refusals.specs.Answers.{Answer, done, refused, Read, number, valueOr, placeOf}
-use Rattle.wire.specs.declared.Written.{Written}
-use Rattle.wire.specs.declared.Written.the-variants.{Next, NotWritten}
-use Rattle.wire.specs.Sending.{writtenOf, afterWrite}
 use Rattle.numbers.specs.declared.IntegerRead.{IntegerRead}
 use Rattle.numbers.specs.declared.IntegerRead.the-variants.{Integer, NoInteger}
 use Rattle.numbers.specs.Integers.{integerOf}
@@ -85,31 +82,6 @@ module _ {r : StringRead} {d : Answer Held} (e : stringOf r ≡ d) where
     pub string-place : p ≡ placeOf (λ (h : Held). h .next) d
     unfolding stringOf placeOf
     string-place = rw (sym e, g)
-
--- ---- what was written
-
-module _ (r : Written) {d : Answer ℕ} (e : writtenOf r ≡ d) where
-  pub written-out : {w x : List ℕ} → w ≡ x → (l : List ℕ) (at : ℕ) {o : List ℕ} → o ≡ afterWrite (writtenOf r) w l at → o ≡ afterWrite d x l at
-  written-out ew l at j = j ∙ rw (e, ew)
-
-module _ {r : Written} {d : Answer ℕ} (e : writtenOf r ≡ d) where
-  module _ {n : ℕ} (g : r ≡ Next n) where
-    pub written-done : 0 ≡ number d
-    unfolding writtenOf number
-    written-done = rw (sym e, g)
-
-    pub written-next : n ≡ valueOr 0 (λ (k : ℕ). k) d
-    unfolding writtenOf valueOr
-    written-next = rw (sym e, g)
-
-  module _ {f : Refusal} (g : r ≡ NotWritten f) where
-    pub written-refused : {k : ℕ} → k ≡ numberOf f → k ≡ number d
-    unfolding writtenOf number
-    written-refused j = rw (sym e, g) j
-
-    pub written-none : 0 ≡ valueOr 0 (λ (k : ℕ). k) d
-    unfolding writtenOf valueOr
-    written-none = rw (sym e, g)
 
 -- a signed argument comes back from a callee's contract as the machine reads it
 pub report-given : (v : ℤ) → SFits w32 v → {d : Answer ℕ} (room at : ℕ) → d ≡ writeReport (toZ w32 (ofZ w32 v)) room at → d ≡ writeReport v room at

@@ -68,7 +68,7 @@ fn put_bytes(s: &[u8], n: usize, body: &mut [i32], at: usize) -> usize {
 // integers have the most, 28. Answers where the next entry goes.
 pub fn put_command(command: Command, list: &[i32], body: &mut [i32], at: usize) -> usize {
     let mut spelling = [0; 64];
-    match commands::write_command(memory::fresh(), command, list, &mut spelling) {
+    match writing::write_command(memory::fresh(), command, list, &mut spelling) {
         Written::Next(n) => put_bytes(&spelling, n, body, at),
         Written::NotWritten(_) => at,
     }

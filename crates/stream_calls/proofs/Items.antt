@@ -15,7 +15,7 @@ use Rattle.parameters.specs.declared.Parameters.the-variants as P
 use Rattle.parameters.specs.Shapes.{valuesOf, tailOf}
 use Rattle.commands.specs.declared.Command.{Command}
 use Rattle.commands.specs.Reading.{Told}
-use Rattle.commands.specs.Writing.{kindFor, kindNumber}
+use Rattle.writable.specs.Writable.{kindFor, kindNumber}
 use Rattle.stream.specs.declared.Item.{Item}
 use Rattle.stream.specs.declared.Item.the-variants.{Nothing, Text, Done, Refused, NotRead}
 use Rattle.stream.specs.Items.{Itemed, itemOf, itemAt, toldItem, afterItem}

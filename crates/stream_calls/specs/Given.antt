@@ -15,7 +15,7 @@ use Rattle.parameters.specs.declared.Parameters.{Parameters}
 use Rattle.parameters.specs.declared.Parameters.the-variants.{Single, Double, Triple, OnePoint, Corners, Scale, Letters, Text, Array, NumberedText, NumberedArray}
 use Rattle.parameters.specs.Shapes.{valuesOf}
 use Rattle.commands.specs.declared.Command.{Command}
-use Rattle.commands.specs.Writing.{afterValues, writeCommand}
+use Rattle.writing.specs.Writing.{afterValues, writeCommand}
 
 abbrev at : List ℤ → ℕ → ℤ
 at vs i = getD vs i (pos 0)

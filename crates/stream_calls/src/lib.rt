@@ -5,9 +5,10 @@ ghost use Prim.Native.Nat.{ℕ};
 ghost use lib.ListN.{length};
 ghost use lib.IntN.{pos};
 ghost use Rattle.refusals.specs.Answers.{number, valueOr};
-ghost use Rattle.wire.specs.Sending.{afterWrite};
+ghost use Rattle.wire.specs.Sending.{writtenOf, afterWrite};
 ghost use Rattle.parameters.specs.Shapes.{valuesOf};
-ghost use Rattle.commands.specs.Writing.{kindFor, kindNumber, spellCommand, writeCommand};
+ghost use Rattle.writable.specs.Writable.{kindFor, kindNumber};
+ghost use Rattle.writing.specs.Writing.{spellCommand, writeFitting, writeCommand};
 ghost use Rattle.stream.specs.Items.{itemAt, toldItem, afterItem};
 ghost use Rattle.stream_calls.specs.Slots.{keptIn, twoOf, itemKept, itemNumber, commandFields, itemFields, fourOf, itemValues};
 ghost use Rattle.stream_calls.specs.Given.{ofKind, ofFound, commandGiven, keptAfter};
@@ -52,7 +53,7 @@ fn command_fields(command: Command, count: usize, next: usize) -> [usize; 7]
     let first = command.first;
     let second = command.second;
     let parameters = command.parameters;
-    let kind = commands::kind_number(commands::kind_of_parameters(parameters));
+    let kind = writable::kind_number(writable::kind_of_parameters(parameters));
     [
         2,
         next,
@@ -172,17 +173,61 @@ fn of_kind(kind: Kind, v: &[i32; 4]) -> Parameters
     }
 }
 
-fn command_given(first: u8, second: u8, v: &[i32; 4]) -> Command
-    ensures { λ r. ⌜ r ≡ commandGiven first second (now (v .entry)) ⌝ }
+// A writing's answer, and what is remembered behind it.
+struct Sent {
+    answer: Written,
+    kept: Remembered,
+}
+
+// A command whose letters have parameters of this kind.
+fn write_known(kept: Remembered, command: Command, list: &[i32], out: &mut [u8]) -> Sent
+    ensures { λ r. ⌜ writtenOf (r .answer) ≡ writeFitting kept command (now (list .entry)) (length (now (out .entry))) ⌝ }
+    ensures { λ r. ⌜ r .kept ≡ keptAfter kept command (writeFitting kept command (now (list .entry)) (length (now (out .entry)))) ⌝ }
+    ensures { λ r. ⌜ now (out .exit) ≡ afterWrite (writeFitting kept command (now (list .entry)) (length (now (out .entry)))) (spellCommand kept command (now (list .entry))) (now (out .entry)) 0 ⌝ }
 {
-    let parameters = match table::kind_of(first, second) {
-        Found::Is(kind) => of_kind(kind, v),
-        Found::NoKind => Parameters::Text,
-    };
-    Command {
-        first: first,
-        second: second,
-        parameters: parameters,
+    let parameters = command.parameters;
+    match writing::write_fitting(kept, command, list, out) {
+        Written::Next(n) => {
+            let behind = writing::remembered_after(kept, parameters);
+            Sent {
+                answer: Written::Next(n),
+                kept: behind,
+            }
+        }
+        Written::NotWritten(e) => Sent {
+            answer: Written::NotWritten(e),
+            kept: kept,
+        },
+    }
+}
+
+// The command that letters and four numbers stand for. The table is looked at once.
+fn write_given(
+    kept: Remembered,
+    first: u8,
+    second: u8,
+    v: &[i32; 4],
+    list: &[i32],
+    out: &mut [u8],
+) -> Sent
+    ensures { λ r. ⌜ writtenOf (r .answer) ≡ writeCommand kept (commandGiven first second (now (v .entry))) (now (list .entry)) (length (now (out .entry))) ⌝ }
+    ensures { λ r. ⌜ r .kept ≡ keptAfter kept (commandGiven first second (now (v .entry))) (writeCommand kept (commandGiven first second (now (v .entry))) (now (list .entry)) (length (now (out .entry)))) ⌝ }
+    ensures { λ r. ⌜ now (out .exit) ≡ afterWrite (writeCommand kept (commandGiven first second (now (v .entry))) (now (list .entry)) (length (now (out .entry)))) (spellCommand kept (commandGiven first second (now (v .entry))) (now (list .entry))) (now (out .entry)) 0 ⌝ }
+{
+    match table::kind_of(first, second) {
+        Found::Is(kind) => {
+            let parameters = of_kind(kind, v);
+            let command = Command {
+                first: first,
+                second: second,
+                parameters: parameters,
+            };
+            write_known(kept, command, list, out)
+        }
+        Found::NoKind => Sent {
+            answer: Written::NotWritten(Refusal::NotValid),
+            kept: kept,
+        },
     }
 }
 
@@ -202,17 +247,16 @@ pub extern "C" fn ardh_write_command(
     ensures { λ _. ⌜ now (out .exit) ≡ afterWrite (writeCommand (keptIn (now (point .entry))) (commandGiven first second (now (values .entry))) (now (list .entry)) (length (now (out .entry)))) (spellCommand (keptIn (now (point .entry))) (commandGiven first second (now (values .entry))) (now (list .entry))) (now (out .entry)) 0 ⌝ }
 {
     let kept = kept_in(point);
-    let command = command_given(first, second, values);
-    let parameters = command.parameters;
-    match commands::write_command(kept, command, list, out) {
+    let sent = write_given(kept, first, second, values, list, out);
+    let behind = sent.kept;
+    let answer = sent.answer;
+    *point = two_of(behind);
+    match answer {
         Written::Next(n) => {
-            let behind = commands::remembered_after(kept, parameters);
-            *point = two_of(behind);
             *written = n;
             DONE
         }
         Written::NotWritten(e) => {
-            *point = two_of(kept);
             *written = 0;
             refusals::number(e)
         }

@@ -125,7 +125,7 @@ fn put_command(
     at: usize,
 ) -> usize {
     let mut spelling = [0; 64];
-    match commands::write_command(kept, command, list, &mut spelling) {
+    match writing::write_command(kept, command, list, &mut spelling) {
         Written::Next(n) => put_all(front(&spelling, n), out, at),
         Written::NotWritten(_) => at,
     }
@@ -152,7 +152,7 @@ fn command(making: Making, out: &mut [u8]) -> Making {
         out,
         making.len,
     );
-    let after = commands::remembered_after(kept, parameters);
+    let after = writing::remembered_after(kept, parameters);
     Making {
         len: len,
         x: drawn.x,

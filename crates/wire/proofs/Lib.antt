@@ -1,3 +1,4 @@
 pub mod Laying
 pub mod Feeds
 pub mod Coinciding
+pub mod Handing

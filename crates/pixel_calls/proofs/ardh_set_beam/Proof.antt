@@ -1,4 +1,5 @@
-use Rattle.pixel_calls.proofs.Answers.{set, beam-given, point-given}
+use Rattle.coordinates.proofs.Sides.{point-given}
+use Rattle.pixel_calls.proofs.Answers.{set, beam-given}
 use borrow.Author.Needs.{needs}
 use Rattle.pixel_calls.proofs.ardh_set_beam.Statement.{statement}
 use Rattle.pixel_calls.proofs.ardh_set_beam.Tie as tie

@@ -1,4 +1,5 @@
-use Rattle.pixel_calls.proofs.Answers.{set, viewport-given, point-given}
+use Rattle.coordinates.proofs.Sides.{point-given}
+use Rattle.pixel_calls.proofs.Answers.{set, viewport-given}
 use borrow.Author.Needs.{needs}
 use Rattle.pixel_calls.proofs.ardh_set_viewport.Statement.{statement}
 use Rattle.pixel_calls.proofs.ardh_set_viewport.Tie as tie

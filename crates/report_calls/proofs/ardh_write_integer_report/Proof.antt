@@ -1,4 +1,5 @@
-use Rattle.report_calls.proofs.Slots.{written-done, written-next, written-refused, written-none, written-out, report-given, spelling-given}
+use Rattle.wire.proofs.Handing.{written-done, written-next, written-refused, written-none, written-out}
+use Rattle.report_calls.proofs.Slots.{report-given, spelling-given}
 use borrow.Author.Needs.{needs}
 use Rattle.report_calls.proofs.ardh_write_integer_report.Statement.{statement}
 use Rattle.report_calls.proofs.ardh_write_integer_report.Tie as tie

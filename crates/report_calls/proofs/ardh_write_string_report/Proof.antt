@@ -1,4 +1,4 @@
-use Rattle.report_calls.proofs.Slots.{written-done, written-next, written-refused, written-none, written-out}
+use Rattle.wire.proofs.Handing.{written-done, written-next, written-refused, written-none, written-out}
 use borrow.Author.Needs.{needs}
 use Rattle.report_calls.proofs.ardh_write_string_report.Statement.{statement}
 use Rattle.report_calls.proofs.ardh_write_string_report.Tie as tie

@@ -1,0 +1,41 @@
+use Rattle.stream_calls.proofs.Writing.{known-so, known-kept, known-out, unknown-so, unknown-kept, unknown-out}
+use borrow.Author.Needs.{needs}
+use Rattle.stream_calls.proofs.write_given.Statement.{statement}
+use Rattle.stream_calls.proofs.write_given.Tie as tie
+
+kind-of-requires : tie.Need-kind-of-requires
+kind-of-requires c κs = search needs
+
+enum-known-kind : tie.Need-enum-known-kind
+enum-known-kind c = search needs
+
+of-kind-requires : tie.Need-of-kind-requires
+of-kind-requires c κs = search needs
+
+write-known-requires : tie.Need-write-known-requires
+write-known-requires c κs = search needs
+
+enum-told : tie.Need-enum-told
+enum-told c = search needs
+
+same-length : tie.Need-same-length
+same-length c = search needs
+
+returns : tie.Need-returns
+returns c = (search (needs, known-so), (search (needs, known-kept), search (needs, known-out)))
+
+returns-2 : tie.Need-returns-2
+returns-2 c = (search (needs, unknown-so), (search (needs, unknown-kept), search (needs, unknown-out)))
+
+pub write-given-spec : {M : Type 1} → statement M
+write-given-spec =
+    tie.close
+    (tie.spec
+    kind-of-requires
+    enum-known-kind
+    of-kind-requires
+    write-known-requires
+    enum-told
+    same-length
+    returns
+    returns-2)

@@ -1,0 +1,167 @@
+// What may be written: letters and parameters that belong together, values within their ranges, a list of at most 256.
+ghost use mathlib.Core.Path.{_≡_};
+ghost use mathlib.Core.Bool.{_&&_};
+ghost use Rattle.parameters.specs.Shapes.{counted, valuesOf, tailOf};
+ghost use Rattle.writable.specs.Writable.{kindFor, kindNumber, isKind, isEntry, areEntries, areValues, isTail, fits, isCommand};
+use commands::Command;
+use memory::Remembered;
+use parameters::Entry;
+use parameters::Parameters;
+use table::Found;
+use table::Kind;
+
+// "more than 256 entries"
+const MOST_ENTRIES: usize = 256;
+
+fn both(a: bool, b: bool) -> bool
+    ensures { λ r. ⌜ r ≡ a && b ⌝ }
+{
+    if a {
+        return b;
+    }
+    false
+}
+
+pub fn kind_number(kind: Kind) -> u8
+    ensures { λ r. ⌜ r ≡ kindNumber kind ⌝ }
+{
+    match kind {
+        Kind::AnInteger => 1,
+        Kind::TwoIntegers => 2,
+        Kind::ThreeIntegers => 3,
+        Kind::APoint => 4,
+        Kind::TwoPoints => 5,
+        Kind::AReal => 6,
+        Kind::AString => 7,
+        Kind::AnArray => 8,
+        Kind::IntegerThenArray => 9,
+        Kind::IntegerThenString => 10,
+        Kind::TwoCharacters => 11,
+    }
+}
+
+pub fn kind_of_parameters(parameters: Parameters) -> Kind
+    ensures { λ r. ⌜ r ≡ kindFor parameters ⌝ }
+{
+    match parameters {
+        Parameters::Single(_) => Kind::AnInteger,
+        Parameters::Double(_, _) => Kind::TwoIntegers,
+        Parameters::Triple(_, _, _) => Kind::ThreeIntegers,
+        Parameters::OnePoint(_) => Kind::APoint,
+        Parameters::Corners(_, _) => Kind::TwoPoints,
+        Parameters::Scale(_) => Kind::AReal,
+        Parameters::Text => Kind::AString,
+        Parameters::Array => Kind::AnArray,
+        Parameters::NumberedArray(_) => Kind::IntegerThenArray,
+        Parameters::NumberedText(_) => Kind::IntegerThenString,
+        Parameters::Letters(_, _) => Kind::TwoCharacters,
+    }
+}
+
+// Whether a command with these letters has parameters of this kind.
+fn letters_fit(first: u8, second: u8, parameters: Parameters) -> bool
+    ensures { λ r. ⌜ r ≡ isKind first second parameters ⌝ }
+{
+    match table::kind_of(first, second) {
+        Found::Is(kind) => {
+            let wanted = kind_number(kind);
+            let given = kind_number(kind_of_parameters(parameters));
+            wanted == given
+        }
+        Found::NoKind => false,
+    }
+}
+
+fn is_entry(entry: Entry, v: i32) -> bool
+    ensures { λ r. ⌜ r ≡ isEntry entry v ⌝ }
+{
+    match entry {
+        Entry::AnInteger => numbers::is_integer(v),
+        Entry::ACharacter => characters::is_character(v),
+    }
+}
+
+fn are_entries(entry: Entry, list: &[i32]) -> bool
+    ensures { λ r. ⌜ r ≡ areEntries entry (now (list .entry)) ⌝ }
+{
+    let mut i = 0;
+    while i < list.len() {
+        let v = list[i];
+        if is_entry(entry, v) {
+            i = i + 1;
+        } else {
+            return false;
+        }
+    }
+    true
+}
+
+fn two_fit(entry: Entry, a: i32, b: i32) -> bool
+    ensures { λ r. ⌜ r ≡ isEntry entry a && isEntry entry b ⌝ }
+{
+    both(is_entry(entry, a), is_entry(entry, b))
+}
+
+fn values_fit(parameters: Parameters) -> bool
+    ensures { λ r. ⌜ r ≡ areValues (valuesOf parameters) ⌝ }
+{
+    match parameters {
+        Parameters::Single(a) => is_entry(Entry::AnInteger, a),
+        Parameters::Double(a, b) => two_fit(Entry::AnInteger, a, b),
+        Parameters::Triple(a, b, d) => both(
+            two_fit(Entry::AnInteger, a, b),
+            is_entry(Entry::AnInteger, d),
+        ),
+        Parameters::OnePoint(p) => memory::is_inside(p),
+        Parameters::Corners(p, q) => both(memory::is_inside(p), memory::is_inside(q)),
+        Parameters::Scale(r) => two_fit(Entry::AnInteger, r.mantissa, r.exponent),
+        Parameters::Letters(a, b) => two_fit(Entry::ACharacter, a, b),
+        Parameters::Text => true,
+        Parameters::Array => true,
+        Parameters::NumberedText(a) => is_entry(Entry::AnInteger, a),
+        Parameters::NumberedArray(a) => is_entry(Entry::AnInteger, a),
+    }
+}
+
+fn list_fits(entry: Entry, list: &[i32]) -> bool
+    ensures { λ r. ⌜ r ≡ isTail (counted entry) (now (list .entry)) ⌝ }
+{
+    if list.len() > MOST_ENTRIES {
+        return false;
+    }
+    are_entries(entry, list)
+}
+
+fn tail_fits(parameters: Parameters, list: &[i32]) -> bool
+    ensures { λ r. ⌜ r ≡ isTail (tailOf parameters) (now (list .entry)) ⌝ }
+{
+    match parameters {
+        Parameters::Text => list_fits(Entry::ACharacter, list),
+        Parameters::NumberedText(_) => list_fits(Entry::ACharacter, list),
+        Parameters::Array => list_fits(Entry::AnInteger, list),
+        Parameters::NumberedArray(_) => list_fits(Entry::AnInteger, list),
+        Parameters::Single(_) => true,
+        Parameters::Double(_, _) => true,
+        Parameters::Triple(_, _, _) => true,
+        Parameters::OnePoint(_) => true,
+        Parameters::Corners(_, _) => true,
+        Parameters::Scale(_) => true,
+        Parameters::Letters(_, _) => true,
+    }
+}
+
+// What is asked of the remembered point, the values and the list.
+pub fn parameters_fit(kept: Remembered, parameters: Parameters, list: &[i32]) -> bool
+    ensures { λ r. ⌜ r ≡ fits kept parameters (now (list .entry)) ⌝ }
+{
+    let values = both(values_fit(parameters), tail_fits(parameters, list));
+    both(memory::is_inside(kept.point), values)
+}
+
+pub fn is_writable(kept: Remembered, command: Command, list: &[i32]) -> bool
+    ensures { λ r. ⌜ r ≡ isCommand kept command (now (list .entry)) ⌝ }
+{
+    let parameters = command.parameters;
+    let letters = letters_fit(command.first, command.second, parameters);
+    both(letters, parameters_fit(kept, parameters, list))
+}

@@ -1,0 +1,50 @@
+use Rattle.wire.proofs.Laying.{standing}
+use Rattle.writing.proofs.Lists.{all-written, stands-written, taken-back, front-long, answer-of}
+use borrow.Author.Needs.{needs}
+use Rattle.writing.proofs.send.Statement.{statement}
+use Rattle.writing.proofs.send.Tie as tie
+
+pour-command-requires : tie.Need-pour-command-requires
+pour-command-requires c κs = search needs
+
+same-length : tie.Need-same-length
+same-length c = search needs
+
+returns : tie.Need-returns
+returns c = (search (needs, all-written), search (needs, stands-written))
+
+slice-aggregate-pour-command : tie.Need-slice-aggregate-pour-command
+slice-aggregate-pour-command c = search needs
+
+pour-command-requires-2 : tie.Need-pour-command-requires-2
+pour-command-requires-2 c κs = search needs
+
+array-share-prefix-bytes : tie.Need-array-share-prefix-bytes
+array-share-prefix-bytes c = search needs
+
+slice-aggregate-lay : tie.Need-slice-aggregate-lay
+slice-aggregate-lay c = search (needs, front-long)
+
+lay-requires : tie.Need-lay-requires
+lay-requires c κs = search needs
+
+same-length-2 : tie.Need-same-length-2
+same-length-2 c = search needs
+
+returns-2 : tie.Need-returns-2
+returns-2 c = (search (needs, taken-back, answer-of), search (needs, taken-back, standing))
+
+pub send-spec : {M : Type 1} → statement M
+send-spec =
+    tie.close
+    (tie.spec
+    pour-command-requires
+    same-length
+    returns
+    slice-aggregate-pour-command
+    pour-command-requires-2
+    array-share-prefix-bytes
+    slice-aggregate-lay
+    lay-requires
+    same-length-2
+    returns-2)

@@ -1,0 +1,74 @@
+-- The bytes of a command. "Writing takes the whole lent list as the entries of a string or array, and for other commands does not look at
+-- it. It gives 8 for .., then 7."
+use Prim.Native.Nat.{ℕ, _%_, _≤_}
+use mathlib.Core.Path.{_≡_}
+use mathlib.Core.List.{List, [], _∷_, _++_, map}
+use lib.ListN.{length}
+use lib.Seq.{sets}
+use lib.IntN.{ℤ, pos, natAbs}
+use Rattle.memory.specs.declared.Remembered.{Remembered}
+use Rattle.memory.specs.Memory.{remember}
+use Rattle.refusals.specs.Answers.{Answer}
+use Rattle.wire.specs.Sending.{sent, writeIf}
+use Rattle.numbers.specs.Integers.{spell}
+use Rattle.points.specs.Writing.{spellPoint}
+use Rattle.parameters.specs.declared.Entry.{Entry}
+use Rattle.parameters.specs.declared.Entry.the-variants.{AnInteger, ACharacter}
+use Rattle.parameters.specs.Shapes.{Tail, none, counted, Value, number, scaled, place, valuesOf, tailOf}
+use Rattle.commands.specs.declared.Command.{Command}
+use Rattle.writable.specs.Writable.{fits, isCommand}
+
+unfoldable pub spellEntry : Entry → Remembered → ℤ → List ℕ
+spellEntry AnInteger kept v = sent kept (spell v)
+spellEntry ACharacter kept v = sent kept (natAbs v ∷ [])
+
+unfoldable pub spellEntries : Entry → Remembered → List ℤ → List ℕ
+spellEntries e kept [] = []
+spellEntries e kept (v ∷ vs) = spellEntry e kept v ++ spellEntries e kept vs
+
+abbrev pub spellValue : Remembered → Value → List ℕ
+spellValue kept (number e v) = spellEntry e kept v
+spellValue kept (scaled m x) = sent kept (spell m) ++ sent kept (spell x)
+spellValue kept (place p) = sent kept (spellPoint (kept .point) p)
+
+-- what is remembered behind a value
+abbrev pub afterValue : Remembered → Value → Remembered
+afterValue kept (number e v) = kept
+afterValue kept (scaled m x) = kept
+afterValue kept (place p) = remember kept p
+
+unfoldable pub spellValues : Remembered → List Value → List ℕ
+spellValues kept [] = []
+spellValues kept (v ∷ vs) = spellValue kept v ++ spellValues (afterValue kept v) vs
+
+unfoldable pub afterValues : Remembered → List Value → Remembered
+afterValues kept [] = kept
+afterValues kept (v ∷ vs) = afterValues (afterValue kept v) vs
+
+unfoldable pub spellTail : Remembered → Tail → List ℤ → List ℕ
+spellTail kept none es = []
+spellTail kept (counted e) es = sent kept (spell (pos (length es))) ++ spellEntries e kept es
+
+unfoldable pub spellParameters : Remembered → List Value → Tail → List ℤ → List ℕ
+spellParameters kept vs t es = spellValues kept vs ++ spellTail (afterValues kept vs) t es
+
+unfoldable pub spellCommand : Remembered → Command → List ℤ → List ℕ
+spellCommand kept c es =
+    (27 ∷ c .first ∷ c .second ∷ []) ++ spellParameters kept (valuesOf (c .parameters)) (tailOf (c .parameters)) es
+
+-- where the letters are known to have such parameters
+abbrev pub writeFitting : Remembered → Command → List ℤ → ℕ → Answer ℕ
+writeFitting kept c es room = writeIf (fits kept (c .parameters) es) (spellCommand kept c es) room 0
+
+abbrev pub writeCommand : Remembered → Command → List ℤ → ℕ → Answer ℕ
+writeCommand kept c es room = writeIf (isCommand kept c es) (spellCommand kept c es) room 0
+
+-- the bytes w, at most most of them, stand in l from at on as far as it has room, and r says how many they are
+pub record Poured (w : List ℕ) (most : ℕ) (l o : List ℕ) (at r : ℕ) : Type 0 where
+  pub size : r ≡ length w
+  pub stand : o ≡ sets l at w
+  pub few : r ≤ most
+
+-- entries as bytes, each as it is where all of them are characters
+abbrev pub bytesOf : List ℤ → List ℕ
+bytesOf es = map (λ v. natAbs v % 256) es

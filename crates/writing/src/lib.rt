@@ -1,0 +1,259 @@
+// Writing a command in its shortest spelling. Pouring lays bytes as far as there is room and says how many they are.
+ghost use mathlib.Core.Path.{_≡_};
+ghost use mathlib.Core.Bool.{true};
+ghost use mathlib.Core.List.{_++_};
+ghost use Prim.Native.Nat.{_≤_, _+_};
+ghost use lib.ListN.{length};
+ghost use lib.Seq.{sets};
+ghost use Rattle.memory.specs.Memory.{inside, remember};
+ghost use Rattle.wire.specs.Sending.{sent, isPlain, writtenOf, writeAt, afterWrite};
+ghost use Rattle.points.specs.Writing.{spellPoint};
+ghost use Rattle.parameters.specs.Shapes.{counted, valuesOf, tailOf};
+ghost use Rattle.writable.specs.Writable.{isEntry, areEntries, areValues, isTail, fits, isCommand};
+ghost use Rattle.writing.specs.Writing.{spellEntry, spellEntries, spellValues, afterValues, spellTail, spellCommand, writeFitting, writeCommand, Poured, bytesOf};
+use commands::Command;
+use memory::Point;
+use memory::Remembered;
+use parameters::Entry;
+use parameters::Parameters;
+use refusals::Refusal;
+use wire::Written;
+
+// No command has more bytes: ESC and two letters, fixed parameters of at most 10, a count of at most 3, and 256 entries of at most 3 each.
+const MOST_BYTES: usize = 784;
+
+fn pour_entry(kept: Remembered, entry: Entry, v: i32, out: &mut [u8], at: usize) -> usize
+    requires { ⌜ isEntry entry v ≡ true ⌝ }
+    ensures { λ r. ⌜ Poured (spellEntry entry kept v) 3 (now (out .entry)) (now (out .exit)) at r ⌝ }
+{
+    match entry {
+        Entry::AnInteger => numbers::pour_integer(kept, v, out, at),
+        Entry::ACharacter => {
+            let b = characters::byte_of(v);
+            wire::pour_one(kept, b, out, at)
+        }
+    }
+}
+
+fn pour_pair(kept: Remembered, entry: Entry, a: i32, b: i32, out: &mut [u8], at: usize) -> usize
+    requires { ⌜ ((isEntry entry a ≡ true) × (isEntry entry b ≡ true)) × (at ≤ 64) ⌝ }
+    ensures { λ r. ⌜ Poured (spellEntry entry kept a ++ spellEntry entry kept b) 6 (now (out .entry)) (now (out .exit)) at r ⌝ }
+{
+    let n = pour_entry(kept, entry, a, out, at);
+    let next = at + n;
+    let m = pour_entry(kept, entry, b, out, next);
+    n + m
+}
+
+fn pour_triple(kept: Remembered, a: i32, b: i32, d: i32, out: &mut [u8], at: usize) -> usize
+    requires { ⌜ ((isEntry Entry.AnInteger a ≡ true) × ((isEntry Entry.AnInteger b ≡ true) × (isEntry Entry.AnInteger d ≡ true))) × (at ≤ 48) ⌝ }
+    ensures { λ r. ⌜ Poured (spellEntry Entry.AnInteger kept a ++ spellEntry Entry.AnInteger kept b ++ spellEntry Entry.AnInteger kept d) 10 (now (out .entry)) (now (out .exit)) at r ⌝ }
+{
+    let n = pour_pair(kept, Entry::AnInteger, a, b, out, at);
+    let next = at + n;
+    let m = pour_entry(kept, Entry::AnInteger, d, out, next);
+    n + m
+}
+
+fn pour_place(kept: Remembered, p: Point, out: &mut [u8], at: usize) -> usize
+    requires { ⌜ (inside (kept .point) ≡ true) × (inside p ≡ true) ⌝ }
+    ensures { λ r. ⌜ Poured (sent kept (spellPoint (kept .point) p)) 5 (now (out .entry)) (now (out .exit)) at r ⌝ }
+{
+    points::pour_point(kept, p, out, at)
+}
+
+fn pour_corners(kept: Remembered, p: Point, q: Point, out: &mut [u8], at: usize) -> usize
+    requires { ⌜ ((inside (kept .point) ≡ true) × ((inside p ≡ true) × (inside q ≡ true))) × (at ≤ 48) ⌝ }
+    ensures { λ r. ⌜ Poured (sent kept (spellPoint (kept .point) p) ++ sent (remember kept p) (spellPoint p q)) 10 (now (out .entry)) (now (out .exit)) at r ⌝ }
+{
+    let n = pour_place(kept, p, out, at);
+    let next = at + n;
+    let m = pour_place(memory::with_point(kept, p), q, out, next);
+    n + m
+}
+
+fn pour_values(kept: Remembered, parameters: Parameters, out: &mut [u8], at: usize) -> usize
+    requires { ⌜ ((inside (kept .point) ≡ true) × (areValues (valuesOf parameters) ≡ true)) × (at ≤ 48) ⌝ }
+    ensures { λ r. ⌜ Poured (spellValues kept (valuesOf parameters)) 10 (now (out .entry)) (now (out .exit)) at r ⌝ }
+{
+    match parameters {
+        Parameters::Single(a) => pour_entry(kept, Entry::AnInteger, a, out, at),
+        Parameters::Double(a, b) => pour_pair(kept, Entry::AnInteger, a, b, out, at),
+        Parameters::Triple(a, b, d) => pour_triple(kept, a, b, d, out, at),
+        Parameters::OnePoint(p) => pour_place(kept, p, out, at),
+        Parameters::Corners(p, q) => pour_corners(kept, p, q, out, at),
+        Parameters::Scale(real) => {
+            let a = real.mantissa;
+            let b = real.exponent;
+            pour_pair(kept, Entry::AnInteger, a, b, out, at)
+        }
+        Parameters::Letters(a, b) => pour_pair(kept, Entry::ACharacter, a, b, out, at),
+        Parameters::Text => 0,
+        Parameters::Array => 0,
+        Parameters::NumberedText(a) => pour_entry(kept, Entry::AnInteger, a, out, at),
+        Parameters::NumberedArray(a) => pour_entry(kept, Entry::AnInteger, a, out, at),
+    }
+}
+
+fn pour_entries(kept: Remembered, entry: Entry, list: &[i32], out: &mut [u8], at: usize) -> usize
+    requires { ⌜ ((areEntries entry (now list) ≡ true) × (length (now list) ≤ 256)) × (at ≤ 64) ⌝ }
+    ensures { λ r. ⌜ Poured (spellEntries entry kept (now (list .entry))) 768 (now (out .entry)) (now (out .exit)) at r ⌝ }
+{
+    let mut i = 0;
+    let mut n = 0;
+    while i < list.len() {
+        let next = at + n;
+        let v = list[i];
+        let m = pour_entry(kept, entry, v, out, next);
+        n = n + m;
+        i = i + 1;
+    }
+    n
+}
+
+// Characters as they are, where all of them have room: nothing is asked between one and the next.
+fn lay_characters(list: &[i32], out: &mut [u8], at: usize)
+    requires { ⌜ at + length (now list) ≤ length (now out) ⌝ }
+    ensures { λ r. ⌜ now (out .exit) ≡ sets (now (out .entry)) at (bytesOf (now (list .entry))) ⌝ }
+{
+    let mut i = 0;
+    while i < list.len() {
+        let v = list[i];
+        let to = at + i;
+        out[to] = characters::byte_of(v);
+        i = i + 1;
+    }
+}
+
+fn pour_characters(kept: Remembered, list: &[i32], out: &mut [u8], at: usize) -> usize
+    requires { ⌜ ((areEntries Entry.ACharacter (now list) ≡ true) × (length (now list) ≤ 256)) × (at ≤ 64) ⌝ }
+    ensures { λ r. ⌜ Poured (spellEntries Entry.ACharacter kept (now (list .entry))) 768 (now (out .entry)) (now (out .exit)) at r ⌝ }
+{
+    let end = at + list.len();
+    if wire::is_plain(kept) {
+        if end <= out.len() {
+            lay_characters(list, out, at);
+            return list.len();
+        }
+    }
+    pour_entries(kept, Entry::ACharacter, list, out, at)
+}
+
+fn pour_all(kept: Remembered, entry: Entry, list: &[i32], out: &mut [u8], at: usize) -> usize
+    requires { ⌜ ((areEntries entry (now list) ≡ true) × (length (now list) ≤ 256)) × (at ≤ 64) ⌝ }
+    ensures { λ r. ⌜ Poured (spellEntries entry kept (now (list .entry))) 768 (now (out .entry)) (now (out .exit)) at r ⌝ }
+{
+    match entry {
+        Entry::AnInteger => pour_entries(kept, entry, list, out, at),
+        Entry::ACharacter => pour_characters(kept, list, out, at),
+    }
+}
+
+fn pour_list(kept: Remembered, entry: Entry, list: &[i32], out: &mut [u8], at: usize) -> usize
+    requires { ⌜ (isTail (counted entry) (now list) ≡ true) × (at ≤ 58) ⌝ }
+    ensures { λ r. ⌜ Poured (spellTail kept (counted entry) (now (list .entry))) 771 (now (out .entry)) (now (out .exit)) at r ⌝ }
+{
+    let n = numbers::pour_count(kept, list.len(), out, at);
+    let next = at + n;
+    let m = pour_all(kept, entry, list, out, next);
+    n + m
+}
+
+fn pour_tail(
+    kept: Remembered,
+    parameters: Parameters,
+    list: &[i32],
+    out: &mut [u8],
+    at: usize,
+) -> usize
+    requires { ⌜ (isTail (tailOf parameters) (now list) ≡ true) × (at ≤ 58) ⌝ }
+    ensures { λ r. ⌜ Poured (spellTail kept (tailOf parameters) (now (list .entry))) 771 (now (out .entry)) (now (out .exit)) at r ⌝ }
+{
+    match parameters {
+        Parameters::Text => pour_list(kept, Entry::ACharacter, list, out, at),
+        Parameters::NumberedText(_) => pour_list(kept, Entry::ACharacter, list, out, at),
+        Parameters::Array => pour_list(kept, Entry::AnInteger, list, out, at),
+        Parameters::NumberedArray(_) => pour_list(kept, Entry::AnInteger, list, out, at),
+        Parameters::Single(_) => 0,
+        Parameters::Double(_, _) => 0,
+        Parameters::Triple(_, _, _) => 0,
+        Parameters::OnePoint(_) => 0,
+        Parameters::Corners(_, _) => 0,
+        Parameters::Scale(_) => 0,
+        Parameters::Letters(_, _) => 0,
+    }
+}
+
+// What is remembered behind a command with these parameters.
+pub fn remembered_after(kept: Remembered, parameters: Parameters) -> Remembered
+    ensures { λ r. ⌜ r ≡ afterValues kept (valuesOf parameters) ⌝ }
+{
+    match parameters {
+        Parameters::OnePoint(p) => memory::with_point(kept, p),
+        Parameters::Corners(_, q) => memory::with_point(kept, q),
+        Parameters::Single(_) => kept,
+        Parameters::Double(_, _) => kept,
+        Parameters::Triple(_, _, _) => kept,
+        Parameters::Scale(_) => kept,
+        Parameters::Letters(_, _) => kept,
+        Parameters::Text => kept,
+        Parameters::Array => kept,
+        Parameters::NumberedText(_) => kept,
+        Parameters::NumberedArray(_) => kept,
+    }
+}
+
+// All bytes of a command that may be written.
+fn pour_command(kept: Remembered, command: Command, list: &[i32], out: &mut [u8]) -> usize
+    requires { ⌜ fits kept (command .parameters) (now list) ≡ true ⌝ }
+    ensures { λ r. ⌜ Poured (spellCommand kept command (now (list .entry))) 784 (now (out .entry)) (now (out .exit)) 0 r ⌝ }
+{
+    let parameters = command.parameters;
+    wire::pour_three(kept, 27, command.first, command.second, out, 0);
+    let n = pour_values(kept, parameters, out, 3);
+    let next = 3 + n;
+    let m = pour_tail(
+        remembered_after(kept, parameters),
+        parameters,
+        list,
+        out,
+        next,
+    );
+    next + m
+}
+
+// A command that may be written, from the front of `out` on, or 7.
+fn send(kept: Remembered, command: Command, list: &[i32], out: &mut [u8]) -> Written
+    requires { ⌜ fits kept (command .parameters) (now list) ≡ true ⌝ }
+    ensures { λ r. ⌜ (writtenOf r ≡ writeAt (spellCommand kept command (now (list .entry))) (length (now (out .entry))) 0) × (now (out .exit) ≡ afterWrite (writtenOf r) (spellCommand kept command (now (list .entry))) (now (out .entry)) 0) ⌝ }
+{
+    if out.len() >= MOST_BYTES {
+        let size = pour_command(kept, command, list, out);
+        return Written::Next(size);
+    }
+    // where there may be too little room, the bytes wait apart until it is known how many they are
+    let mut bytes = [0u8; MOST_BYTES];
+    let size = pour_command(kept, command, list, &mut bytes);
+    wire::lay(&bytes[..size], out, 0)
+}
+
+// The command's shortest spelling from the front of `out` on: 8 for what may not be written, then 7.
+pub fn write_command(kept: Remembered, command: Command, list: &[i32], out: &mut [u8]) -> Written
+    ensures { λ r. ⌜ (writtenOf r ≡ writeCommand kept command (now (list .entry)) (length (now (out .entry)))) × (now (out .exit) ≡ afterWrite (writtenOf r) (spellCommand kept command (now (list .entry))) (now (out .entry)) 0) ⌝ }
+{
+    if writable::is_writable(kept, command, list) {
+        return send(kept, command, list, out);
+    }
+    Written::NotWritten(Refusal::NotValid)
+}
+
+// The same where the letters were found in the table and gave the kind of the parameters: they are not looked up again.
+pub fn write_fitting(kept: Remembered, command: Command, list: &[i32], out: &mut [u8]) -> Written
+    ensures { λ r. ⌜ (writtenOf r ≡ writeFitting kept command (now (list .entry)) (length (now (out .entry)))) × (now (out .exit) ≡ afterWrite (writtenOf r) (spellCommand kept command (now (list .entry))) (now (out .entry)) 0) ⌝ }
+{
+    let parameters = command.parameters;
+    if writable::parameters_fit(kept, parameters, list) {
+        return send(kept, command, list, out);
+    }
+    Written::NotWritten(Refusal::NotValid)
+}
