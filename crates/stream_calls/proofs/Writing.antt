@@ -1,6 +1,6 @@
 -- A command that is given by letters and four numbers, and what writing it hands out.
 use Prim.Native.Nat.{ℕ}
-use mathlib.Core.Path.{_≡_, refl, sym, _∙_, ap}
+use mathlib.Core.Path.{_≡_, refl, sym, _∙_}
 use mathlib.Core.Bool.{true}
 use mathlib.Core.List.{List}
 use borrow.Author.Tests.{eq-eqb}
@@ -27,7 +27,7 @@ use Rattle.parameters.specs.declared.Parameters.{Parameters}
 use Rattle.parameters.specs.declared.Parameters.the-variants.{Single, Double, Triple, OnePoint, Corners, Scale, Letters, Text, Array, NumberedText, NumberedArray}
 use Rattle.parameters.specs.Shapes.{valuesOf}
 use Rattle.commands.specs.declared.Command.{Command}
-use Rattle.writable.specs.Writable.{kindFor, kindNumber, isKind, fits, isCommand}
+use Rattle.writable.specs.Writable.{kindFor, kindNumber, isKind, isCommand}
 use Rattle.writing.specs.Writing.{afterValues, spellCommand, writeFitting, writeCommand}
 use Rattle.stream_calls.specs.Slots.{keptIn, twoOf}
 use Rattle.stream_calls.specs.Given.{ofKind, ofFound, commandGiven, keptAfter}

@@ -179,7 +179,7 @@ struct Sent {
     kept: Remembered,
 }
 
-// A command whose letters have parameters of this kind.
+// Writes a command whose letters are known to have such parameters; and what is remembered behind it.
 fn write_known(kept: Remembered, command: Command, list: &[i32], out: &mut [u8]) -> Sent
     ensures { λ r. ⌜ writtenOf (r .answer) ≡ writeFitting kept command (now (list .entry)) (length (now (out .entry))) ⌝ }
     ensures { λ r. ⌜ r .kept ≡ keptAfter kept command (writeFitting kept command (now (list .entry)) (length (now (out .entry)))) ⌝ }
@@ -201,7 +201,7 @@ fn write_known(kept: Remembered, command: Command, list: &[i32], out: &mut [u8])
     }
 }
 
-// The command that letters and four numbers stand for. The table is looked at once.
+// Writes the command that letters and four numbers stand for. The table is looked at once.
 fn write_given(
     kept: Remembered,
     first: u8,

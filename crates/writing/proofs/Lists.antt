@@ -1,7 +1,7 @@
 -- The entries of a list, poured one a turn, and the whole command behind them.
 use Prim.Native.Nat.{ℕ, zero, suc, _+_, _*_, _%_, _≤_, _<_}
 use mathlib.Core.Path.{_≡_, refl, sym, _∙_, ap}
-use mathlib.Core.Bool.{Bool, true, false, _&&_}
+use mathlib.Core.Bool.{Bool, true, _&&_}
 use mathlib.Core.List.{List, [], _∷_, _++_, append-assoc}
 use native.Mathlib.Omega.{arith}
 use native.Mathlib.Numerals.{add-one}
@@ -14,11 +14,10 @@ use Rattle.memory.specs.declared.Remembered.{Remembered}
 use Rattle.memory.specs.declared.Point.{Point}
 use Rattle.memory.specs.Memory.{inside, remember}
 use Rattle.refusals.specs.Answers.{Answer, every}
-use Rattle.refusals.specs.declared.Refusal.the-variants.{NotValid}
 use Rattle.refusals.proofs.Cases.{and-left, and-right}
 use Rattle.refusals.proofs.Many.{sets-append}
-use Rattle.wire.specs.Sending.{sent, isPlain, poured, writtenOf, writeAt, writeIf, afterWrite}
-use Rattle.wire.specs.declared.Written.the-variants.{Next, NotWritten}
+use Rattle.wire.specs.Sending.{sent, isPlain, poured, writtenOf, writeAt, afterWrite}
+use Rattle.wire.specs.declared.Written.the-variants.{Next}
 use Rattle.wire.proofs.Laying.{Laying, laying-none, laying-more, laying-end, sent-plain}
 use Rattle.characters.proofs.Entries.{a-byte}
 use Rattle.numbers.specs.Integers.{spell}

@@ -6,10 +6,10 @@ ghost use Prim.Native.Nat.{_≤_, _+_};
 ghost use lib.ListN.{length};
 ghost use lib.Seq.{sets};
 ghost use Rattle.memory.specs.Memory.{inside, remember};
-ghost use Rattle.wire.specs.Sending.{sent, isPlain, writtenOf, writeAt, afterWrite};
+ghost use Rattle.wire.specs.Sending.{sent, writtenOf, writeAt, afterWrite};
 ghost use Rattle.points.specs.Writing.{spellPoint};
 ghost use Rattle.parameters.specs.Shapes.{counted, valuesOf, tailOf};
-ghost use Rattle.writable.specs.Writable.{isEntry, areEntries, areValues, isTail, fits, isCommand};
+ghost use Rattle.writable.specs.Writable.{isEntry, areEntries, areValues, isTail, fits};
 ghost use Rattle.writing.specs.Writing.{spellEntry, spellEntries, spellValues, afterValues, spellTail, spellCommand, writeFitting, writeCommand, Poured, bytesOf};
 use commands::Command;
 use memory::Point;
@@ -247,7 +247,7 @@ pub fn write_command(kept: Remembered, command: Command, list: &[i32], out: &mut
     Written::NotWritten(Refusal::NotValid)
 }
 
-// The same where the letters were found in the table and gave the kind of the parameters: they are not looked up again.
+// The same where the letters were found in the table and gave the kind of the parameters: they are sent as they stand.
 pub fn write_fitting(kept: Remembered, command: Command, list: &[i32], out: &mut [u8]) -> Written
     ensures { λ r. ⌜ (writtenOf r ≡ writeFitting kept command (now (list .entry)) (length (now (out .entry)))) × (now (out .exit) ≡ afterWrite (writtenOf r) (spellCommand kept command (now (list .entry))) (now (out .entry)) 0) ⌝ }
 {
