@@ -141,7 +141,10 @@ uint8_t ardh_step(size_t w, size_t h, size_t record[7]);
 
 /*
  * RP: n pixels by raster characters on the surface, top row first, whose length must be w times h. *count is the number of pixels.
- * Returns 11, 8 for the record, 9, 8 for n outside 0..32767 or more than 256 characters, 10; or 0.
+ * The character 96 ends a row: the beam goes to the left edge of the row below, from the last row to that of the top one, and from a left edge
+ * too, so that a whole row is passed. The places passed keep their bytes, and n does not count them.
+ * Returns 11, 8 for the record, 9, 8 for n outside 0..32767 or more than 256 characters (each 96 is one), 10 for a character outside 32..96 or
+ * if those other than 96 are not just as many as n needs; or 0.
  */
 uint8_t ardh_draw_raster(uint8_t *surface, size_t length, size_t w, size_t h, size_t record[7], int32_t n, const int32_t *characters,
                          size_t entries, size_t *count);

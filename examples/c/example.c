@@ -50,6 +50,7 @@ static const uint8_t built_in[] = {
     27, 75, 88, 53,                               /* KX 5: refused for that */
     27, 75, 68, 53, 54, 65, 59, 69, 50, 68, 60, 67, 49, 68, 49, 67, 63, /* KD 5: the body RL, three pixels of colour 7 */
     27, 75, 88, 53,                               /* KX 5: expanded, and carried out */
+    27, 82, 80, 51, 51, 42, 96, 60,               /* RP 3: colours 1 2, an end of row, and 3 in the row below */
     27, 82, 80, 52, 49, 42,                       /* RP 4 with one character: refused */
     27, 75, 88, 54,                               /* KX 6: no such macro */
     27, 75, 90, 48,                               /* KZ: no such command */

@@ -1,4 +1,5 @@
-//! The second program: it follows the rules of document 01 with no code of the proved crates, so that the two can be compared.
+//! The second program: it follows the rules of document 01, and those requests of document 02 that have landed (K1), with no code of the
+//! proved crates, so that the two can be compared.
 
 pub mod answers;
 pub mod blocks;
@@ -8,6 +9,8 @@ pub mod cases;
 pub mod commands;
 pub mod digest;
 pub mod draws;
+#[cfg(test)]
+mod end_of_row;
 pub mod expansion;
 pub mod expansion_cases;
 pub mod forms;

@@ -7,6 +7,9 @@ const GREATEST_NUMBER: i32 = 32767;
 const MOST_ENTRIES: usize = 256;
 const BITS_OF_A_CHARACTER: usize = 6;
 
+/// It "sends the beam to the left edge of the row below", and names no pixel.
+const END_OF_ROW: i32 = 96;
+
 /// The bytes that are lent, top row first, and the size that is said to be theirs.
 pub struct Surface<'a> {
     pub bytes: &'a mut [u8],
@@ -23,10 +26,15 @@ impl Surface<'_> {
     ) -> Result<usize, Refusal> {
         self.check(record)?;
         check_numbers(&[n], characters.len())?;
-        let colours = colours_of(n as usize, characters, record.bits)?;
-        self.store(record, colours.iter().copied());
-        record.advance(colours.len());
-        Ok(colours.len())
+        let stretches = stretches_of(n as usize, characters, record.bits)?;
+        for (ends_before, colours) in stretches.iter().enumerate() {
+            if ends_before > 0 {
+                record.go_to_next_row();
+            }
+            self.store(record, colours.iter().copied());
+            record.advance(colours.len());
+        }
+        Ok(stretches.iter().map(Vec::len).sum())
     }
 
     /// RL: runs, each a code. Returns the number of pixels.
@@ -75,13 +83,29 @@ fn check_numbers(numbers: &[i32], entries: usize) -> Result<(), Refusal> {
     }
 }
 
-/// "Each character is 32 plus six bits, 32..95, and takes its pixels from the top bits down, 6/bits to a character." The spare
-/// pixels of the last are dropped.
-fn colours_of(n: usize, characters: &[i32], bits: usize) -> Result<Vec<u8>, Refusal> {
-    let in_character = BITS_OF_A_CHARACTER / bits;
-    if characters.len() != n.div_ceil(in_character) {
+/// The colours of RP, parted where an end of row stands: with k of them there are k + 1 stretches, empty ones too.
+fn stretches_of(n: usize, characters: &[i32], bits: usize) -> Result<Vec<Vec<u8>>, Refusal> {
+    let is_end = |character: &i32| *character == END_OF_ROW;
+    let ends = characters.iter().filter(|&character| is_end(character));
+    let others = characters.len() - ends.count();
+    if others != n.div_ceil(BITS_OF_A_CHARACTER / bits) {
         return Err(Refusal::RasterWrong);
     }
+    let mut left = n;
+    let mut stretches = Vec::new();
+    for stretch in characters.split(is_end) {
+        let mut colours = colours_of(stretch, bits)?;
+        // The spare pixels of the last character are dropped.
+        colours.truncate(left);
+        left -= colours.len();
+        stretches.push(colours);
+    }
+    Ok(stretches)
+}
+
+/// "Each character is 32 plus six bits, 32..95, and takes its pixels from the top bits down, 6/bits to a character."
+fn colours_of(characters: &[i32], bits: usize) -> Result<Vec<u8>, Refusal> {
+    let in_character = BITS_OF_A_CHARACTER / bits;
     let mut colours = Vec::new();
     for &character in characters {
         if !(32..=95).contains(&character) {
@@ -91,7 +115,6 @@ fn colours_of(n: usize, characters: &[i32], bits: usize) -> Result<Vec<u8>, Refu
         let from_the_top = (0..in_character).rev();
         colours.extend(from_the_top.map(|k| six_bits >> (k * bits) & mask(bits)));
     }
-    colours.truncate(n);
     Ok(colours)
 }
 
@@ -132,7 +155,7 @@ mod tests {
 
     #[test]
     fn the_sheet_has_four_pixels_in_42_60() {
-        assert_eq!(colours_of(4, &[42, 60], 3), Ok(vec![1, 2, 3, 4]));
+        assert_eq!(stretches_of(4, &[42, 60], 3), Ok(vec![vec![1, 2, 3, 4]]));
         assert_eq!(run_of(21, 3), (2, 5));
     }
 
@@ -140,11 +163,21 @@ mod tests {
     fn characters_are_taken_from_the_top_bits_down() {
         // 32 and 0b011011.
         let character = [32 + 27];
-        assert_eq!(colours_of(6, &character, 1), Ok(vec![0, 1, 1, 0, 1, 1]));
-        assert_eq!(colours_of(3, &character, 2), Ok(vec![1, 2, 3]));
-        assert_eq!(colours_of(2, &character, 3), Ok(vec![3, 3]));
-        assert_eq!(colours_of(1, &character, 6), Ok(vec![27]));
-        assert_eq!(colours_of(5, &character, 1), Ok(vec![0, 1, 1, 0, 1]));
+        assert_eq!(colours_of(&character, 1), Ok(vec![0, 1, 1, 0, 1, 1]));
+        assert_eq!(colours_of(&character, 2), Ok(vec![1, 2, 3]));
+        assert_eq!(colours_of(&character, 3), Ok(vec![3, 3]));
+        assert_eq!(colours_of(&character, 6), Ok(vec![27]));
+        let five = vec![vec![0, 1, 1, 0, 1]];
+        assert_eq!(stretches_of(5, &character, 1), Ok(five));
+    }
+
+    #[test]
+    fn ends_of_row_part_the_colours() {
+        let parted = vec![vec![], vec![1, 2], vec![], vec![3], vec![]];
+        let characters = [96, 42, 96, 96, 60, 96];
+        assert_eq!(stretches_of(3, &characters, 3), Ok(parted));
+        assert_eq!(stretches_of(0, &[96], 3), Ok(vec![vec![], vec![]]));
+        assert_eq!(stretches_of(0, &[], 3), Ok(vec![vec![]]));
     }
 
     #[test]
@@ -190,7 +223,7 @@ mod tests {
             (257, &[32; 256], Refusal::RasterWrong),
             (32767, &[32; 256], Refusal::RasterWrong),
             (1, &[31], Refusal::RasterWrong),
-            (1, &[96], Refusal::RasterWrong),
+            (1, &[97], Refusal::RasterWrong),
             (1, &[], Refusal::RasterWrong),
             (0, &[32], Refusal::RasterWrong),
         ] {

@@ -161,6 +161,16 @@ impl Record {
     pub fn advance(&mut self, places: usize) {
         (self.x, self.y) = self.place_past_beam(places);
     }
+
+    /// "To the left edge of the row below, round to the top after the last, even from a left edge."
+    pub fn go_to_next_row(&mut self) {
+        self.x = self.left;
+        self.y = if self.y == self.bottom {
+            self.top
+        } else {
+            self.y - 1
+        };
+    }
 }
 
 impl fmt::Display for Record {
@@ -277,6 +287,22 @@ mod tests {
             record.step(SIZE).unwrap();
         }
         assert_eq!(places, [(1, 2), (2, 2), (1, 1), (2, 1), (1, 2)]);
+    }
+
+    #[test]
+    fn the_next_row_is_below_and_after_the_last_the_top() {
+        let mut record = fresh();
+        record
+            .set_viewport(SIZE, [point(1, 1), point(3, 2)])
+            .unwrap();
+        for from in [1, 2, 3] {
+            record.set_beam(SIZE, point(from, 2)).unwrap();
+            record.go_to_next_row();
+            assert_eq!([record.x, record.y], [1, 1]);
+            record.set_beam(SIZE, point(from, 1)).unwrap();
+            record.go_to_next_row();
+            assert_eq!([record.x, record.y], [1, 2]);
+        }
     }
 
     #[test]

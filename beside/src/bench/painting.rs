@@ -122,6 +122,23 @@ fn refused_writes(write: &Write) -> Vec<Write> {
     ]
 }
 
+/// RP with ends of row: first, last, twice running, alone, as many as a list can have; and refused ones.
+fn ended_writes() -> Vec<Write> {
+    let write = |n, entries: &[i32]| Write {
+        n: Some(n),
+        entries: entries.to_vec(),
+    };
+    vec![
+        write(3, &[96, 42, 96, 96, 60, 96]),
+        write(4, &[42, 96, 60]),
+        write(0, &[96]),
+        write(0, &[96; 256]),
+        write(0, &[96; 257]),
+        write(3, &[42, 96]),
+        write(2, &[42, 96, 97]),
+    ]
+}
+
 impl Painting {
     /// Both programs do a write, on surfaces and with records that are alike.
     fn compare_write(
@@ -165,7 +182,8 @@ impl Job for Painting {
             let mut records = (fields, record_of(fields));
             self.compare_write(&mut surfaces, &mut records, &self.writes[0])?;
         }
-        for write in refused_writes(&self.writes[0]) {
+        let refused = refused_writes(&self.writes[0]).into_iter();
+        for write in refused.chain(ended_writes()) {
             self.compare_write(&mut surfaces, &mut records, &write)?;
         }
         Ok(())

@@ -10,7 +10,7 @@ use super::reports::{
 use super::shrinking::smallest;
 use super::stores::{definitions, look_up};
 use super::streams::{damaged_stream, random_stream, single_item, valid_stream};
-use super::surfaces::{beam_records, surfaces};
+use super::surfaces::{beam_records, surfaces, MET};
 use super::tally::Row;
 
 /// A number, and those that it comes before where both have their reason.
@@ -24,6 +24,8 @@ pub struct Kind {
     pub numbers: &'static [u8],
     /// The orders that such a case can show.
     pub orders: &'static [Order],
+    /// What such a case can meet where it is done.
+    pub met: &'static [&'static str],
     pub run: Run,
 }
 
@@ -121,7 +123,8 @@ pub const KINDS: [Kind; 15] = [
         &[0, 8, 9, 10, 11],
         &[(11, &[8, 9, 10]), (8, &[9, 10]), (9, &[8, 10])],
         |draws, row| compared(surfaces(draws), row),
-    ),
+    )
+    .meeting(&MET),
     kind(
         "stores",
         800_000,
@@ -164,7 +167,14 @@ const fn kind(
         cases,
         numbers,
         orders,
+        met: &[],
         run,
+    }
+}
+
+impl Kind {
+    const fn meeting(self, met: &'static [&'static str]) -> Kind {
+        Kind { met, ..self }
     }
 }
 

@@ -74,7 +74,7 @@ impl Run {
     fn complaints(&self) -> Vec<String> {
         let mut complaints = Vec::new();
         for (kind, row) in KINDS.iter().zip(&self.rows) {
-            let of_kind = row.complaints(kind.numbers, kind.orders).into_iter();
+            let of_kind = row.complaints(kind).into_iter();
             complaints.extend(of_kind.map(|complaint| format!("{}: {complaint}", kind.name)));
         }
         complaints
@@ -87,7 +87,7 @@ impl Run {
             text += &format!("{}: {row}\n", kind.name);
             all.add(row);
         }
-        text + &format!("all kinds: {}\n", all.without_orders())
+        text + &format!("all kinds: {}\n", all.answers_alone())
     }
 
     /// Short runs need not reach everything; the fixed part must.
@@ -180,6 +180,7 @@ mod tests {
         let report = Run::start(1).report(Ok(()), true);
         assert!(!report.is_good);
         assert!(report.text.contains("stores: 13 was not seen"));
+        assert!(report.text.contains("surfaces: 96 first was not seen"));
         assert!(Run::start(1).report(Ok(()), false).is_good);
         let different = Run::start(1).report(Err("DIFFERENCE".to_string()), false);
         assert!(!different.is_good);

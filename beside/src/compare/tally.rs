@@ -1,8 +1,9 @@
 //! How many cases of each kind there were, and which answers were seen.
 
+use std::collections::BTreeMap;
 use std::fmt;
 
-use super::kinds::Order;
+use super::kinds::{Kind, Order};
 
 /// The numbers that the unit gives back, 0 to 17.
 pub const NUMBERS: usize = 18;
@@ -14,6 +15,8 @@ pub struct Row {
     answers: [u64; NUMBERS],
     /// By the number given, and by another whose reason was there too.
     orders: [[u64; NUMBERS]; NUMBERS],
+    /// By the name of what a call met that was done.
+    met: BTreeMap<&'static str, u64>,
 }
 
 impl Default for Row {
@@ -22,6 +25,7 @@ impl Default for Row {
             cases: 0,
             answers: [0; NUMBERS],
             orders: [[0; NUMBERS]; NUMBERS],
+            met: BTreeMap::new(),
         }
     }
 }
@@ -39,6 +43,14 @@ impl Row {
         }
     }
 
+    /// Notes that a call was done, and what it met.
+    pub fn done(&mut self, met: &[&'static str]) {
+        self.answer(0);
+        for &what in met {
+            *self.met.entry(what).or_default() += 1;
+        }
+    }
+
     pub fn add(&mut self, other: &Row) {
         self.cases += other.cases;
         for number in 0..NUMBERS {
@@ -47,17 +59,34 @@ impl Row {
                 self.orders[number][behind] += other.orders[number][behind];
             }
         }
-    }
-
-    pub fn without_orders(&self) -> Row {
-        Row {
-            orders: Row::default().orders,
-            ..self.clone()
+        for (&what, &times) in &other.met {
+            *self.met.entry(what).or_default() += times;
         }
     }
 
-    /// The numbers that a kind can give and that were not seen, and so its orders; and what was seen and cannot be.
-    pub fn complaints(&self, numbers: &[u8], orders: &[Order]) -> Vec<String> {
+    pub fn answers_alone(&self) -> Row {
+        Row {
+            cases: self.cases,
+            answers: self.answers,
+            ..Row::default()
+        }
+    }
+
+    /// What a kind can give or meet and was not seen, and what was seen and cannot be.
+    pub fn complaints(&self, kind: &Kind) -> Vec<String> {
+        let mut complaints = self.complaints_of_numbers(kind.numbers, kind.orders);
+        for &what in kind.met {
+            let seen = self.met.get(what).copied().unwrap_or(0);
+            complain(&mut complaints, seen, true, || what.to_string());
+        }
+        for (&what, &seen) in &self.met {
+            let can_be = kind.met.contains(&what);
+            complain(&mut complaints, seen, can_be, || what.to_string());
+        }
+        complaints
+    }
+
+    fn complaints_of_numbers(&self, numbers: &[u8], orders: &[Order]) -> Vec<String> {
         let mut complaints = Vec::new();
         for number in 0..NUMBERS as u8 {
             let seen = self.answers[usize::from(number)];
@@ -84,7 +113,7 @@ fn complain(complaints: &mut Vec<String>, seen: u64, can_be: bool, what: impl Fn
     }
 }
 
-/// Two lines: the answers by number, and how often one number went before another.
+/// Up to three lines: the answers by number, how often one number went before another, and what was met.
 impl fmt::Display for Row {
     fn fmt(&self, text: &mut fmt::Formatter) -> fmt::Result {
         let answers: u64 = self.answers.iter().sum();
@@ -99,6 +128,12 @@ impl fmt::Display for Row {
             for (behind, &times) in others.iter().enumerate() {
                 write_times(text, &format!("{number} before {behind}"), times)?;
             }
+        }
+        if !self.met.is_empty() {
+            write!(text, "\n    met where done:")?;
+        }
+        for (what, &times) in &self.met {
+            write_times(text, what, times)?;
         }
         Ok(())
     }
@@ -126,6 +161,17 @@ mod tests {
         row
     }
 
+    fn kind(numbers: &'static [u8], orders: &'static [Order], met: &'static [&str]) -> Kind {
+        Kind {
+            name: "sample",
+            cases: 0,
+            numbers,
+            orders,
+            met,
+            run: |_, _| Ok(()),
+        }
+    }
+
     #[test]
     fn answers_and_orders_are_shown() {
         assert_eq!(
@@ -145,21 +191,48 @@ mod tests {
             sum.to_string(),
             "4 cases, 6 answers: [0] 2 [11] 4\n    two reasons at once: [11 before 8] 4 [11 before 9] 2"
         );
+        let alone = "4 cases, 6 answers: [0] 2 [11] 4";
+        assert_eq!(sum.answers_alone().to_string(), alone);
+    }
+
+    #[test]
+    fn what_was_met_is_shown_and_adds_up() {
+        let mut row = Row::default();
+        row.done(&["96", "96 first"]);
+        row.done(&["96"]);
+        row.done(&[]);
+        let mut sum = row.clone();
+        sum.add(&row);
+        let shown = "0 cases, 6 answers: [0] 6\n    met where done: [96] 4 [96 first] 2";
+        assert_eq!(sum.to_string(), shown);
+        assert_eq!(sum.answers_alone().to_string(), "0 cases, 6 answers: [0] 6");
     }
 
     #[test]
     fn what_was_not_reached_is_named() {
-        assert!(row().complaints(&[0, 11], &[(11, &[8, 9])]).is_empty());
+        let complaints = row().complaints(&kind(&[0, 11], &[(11, &[8, 9])], &[]));
+        assert!(complaints.is_empty());
         assert_eq!(
-            row().complaints(&[0, 8, 11], &[(8, &[9]), (11, &[8, 9])]),
+            row().complaints(&kind(&[0, 8, 11], &[(8, &[9]), (11, &[8, 9])], &[])),
             ["8 was not seen", "8 before 9 was not seen"]
         );
         assert_eq!(
-            row().complaints(&[0], &[(11, &[8])]),
+            row().complaints(&kind(&[0], &[(11, &[8])], &[])),
             [
                 "11 was seen and cannot be",
                 "11 before 9 was seen and cannot be"
             ]
+        );
+    }
+
+    #[test]
+    fn what_was_not_met_is_named() {
+        let mut row = Row::default();
+        row.done(&["96"]);
+        assert!(row.complaints(&kind(&[0], &[], &["96"])).is_empty());
+        assert_eq!(
+            row.complaints(&kind(&[0], &[], &["96 first"])),
+            ["96 first was not seen", "96 was seen and cannot be"]
         );
     }
 }

@@ -4,6 +4,9 @@ use super::integers::MOST_ENTRIES;
 use super::record::{is_size, Record};
 use super::refusals::Refusal;
 
+/// Ends a row in RP, and is none of the characters that N needs.
+const END_OF_ROW: i32 = 96;
+
 /// RP: `n` pixels by raster characters; their number is handed back.
 pub fn draw_raster(
     surface: &mut [u8],
@@ -19,13 +22,16 @@ pub fn draw_raster(
     }
     let total = n as usize;
     let per_character = 6 / record.bits;
-    let allowed = characters.iter().all(|&c| (32..=95).contains(&c));
-    if !allowed || characters.len() != total.div_ceil(per_character) {
+    if naming(characters) != Some(total.div_ceil(per_character)) {
         return Err(Refusal::RasterCharacters);
     }
     let mut beam = *record;
     let mut left = total;
     for &character in characters {
+        if character == END_OF_ROW {
+            beam.end_row();
+            continue;
+        }
         let named = left.min(per_character);
         lay_character(surface, w, h, &mut beam, character as usize - 32, named);
         left -= named;
@@ -78,6 +84,19 @@ fn is_number(value: i32) -> bool {
     (0..=32767).contains(&value)
 }
 
+/// How many characters name pixels, where all are allowed.
+fn naming(characters: &[i32]) -> Option<usize> {
+    let mut count = 0;
+    for &character in characters {
+        match character {
+            32..=95 => count += 1,
+            END_OF_ROW => {}
+            _ => return None,
+        }
+    }
+    Some(count)
+}
+
 /// The first `n` pixels of six bits, from the top bits down.
 fn lay_character(surface: &mut [u8], w: usize, h: usize, beam: &mut Record, six: usize, n: usize) {
     let mask = (1 << beam.bits) - 1;
@@ -123,6 +142,26 @@ mod tests {
     }
 
     #[test]
+    fn ends_of_row_pass_places_over() {
+        let mut surface = [9; 6];
+        let mut record = THREE_BY_TWO;
+        let drawn = draw_raster(&mut surface, 3, 2, &mut record, 3, &[42, 96, 60, 96]);
+        assert_eq!(drawn, Ok(3));
+        assert_eq!(surface, [1, 2, 9, 3, 9, 9]);
+        assert_eq!((record.x, record.y), (0, 1));
+        // From a left edge a whole row is passed over, and behind the last comes the top.
+        let drawn = draw_raster(&mut surface, 3, 2, &mut record, 1, &[96, 60, 96, 96]);
+        assert_eq!(drawn, Ok(1));
+        assert_eq!(surface, [1, 2, 9, 3, 9, 9]);
+        assert_eq!((record.x, record.y), (0, 0));
+        assert_eq!(
+            draw_raster(&mut surface, 3, 2, &mut record, 0, &[96]),
+            Ok(0)
+        );
+        assert_eq!(record, THREE_BY_TWO);
+    }
+
+    #[test]
     fn refusals_in_their_order() {
         let mut surface = [9; 6];
         let mut unset = THREE_BY_TWO;
@@ -139,8 +178,12 @@ mod tests {
         assert_eq!(drawn, Err(Refusal::NotValid));
         let drawn = draw_raster(&mut surface, 3, 2, &mut record, -1, &[31]);
         assert_eq!(drawn, Err(Refusal::NotValid));
-        let drawn = draw_raster(&mut surface, 3, 2, &mut record, 3, &[32]);
-        assert_eq!(drawn, Err(Refusal::RasterCharacters));
+        let drawn = draw_raster(&mut surface, 3, 2, &mut record, 0, &[96; 257]);
+        assert_eq!(drawn, Err(Refusal::NotValid));
+        for wrong in [&[32][..], &[32, 96], &[32, 96, 32, 32], &[32, 96, 97]] {
+            let drawn = draw_raster(&mut surface, 3, 2, &mut record, 3, wrong);
+            assert_eq!(drawn, Err(Refusal::RasterCharacters));
+        }
         assert_eq!((surface, record), ([9; 6], THREE_BY_TWO));
     }
 }

@@ -27,8 +27,13 @@ impl Record {
     pub fn step(&mut self) {
         if self.x < self.right {
             self.x += 1;
-            return;
+        } else {
+            self.end_row();
         }
+    }
+
+    /// The beam at the left edge of the row below, or of the top one behind the last.
+    pub fn end_row(&mut self) {
         self.x = self.left;
         if self.y > self.bottom {
             self.y -= 1;

@@ -1,23 +1,23 @@
--- What a call names: colours and no gaps, as many as it returns.
+-- What a call names: as many colours as it returns, and no gaps where it has no 96.
 use Prim.Native.Nat.{ℕ, zero, suc, _+_, _-_, _*_, _/_, _%_, _^_, _≤_, _<_, min}
 use mathlib.Core.Path.{_≡_, refl, sym, _∙_, ap}
-use mathlib.Core.Bool.{Bool, true, false}
+use mathlib.Core.Bool.{Bool, true, false, not}
 use mathlib.Core.List.{List, [], _∷_, _++_, map}
-use native.Mathlib.Nat.{mul-zero, mul-suc, div-add-mod, mod-lt, min-eq-left, pos-of-ne-zero}
+use native.Mathlib.Nat.{zero-add, mul-zero, mul-suc, div-add-mod, mod-lt, min-eq-left, pos-of-ne-zero}
 use native.Mathlib.Omega.{arith}
-use lib.ListN.{length, length-append, length-map}
+use lib.ListN.{length, length-append, replicate}
 use lib.Dec.{eqb}
 use lib.IntN.{ℤ, natAbs}
-use borrow.Author.Tests.{eqb-true}
+use borrow.Author.Tests.{eqb-true, not-true}
 use Rattle.refusals.specs.Answers.{pick, every}
-use Rattle.refusals.proofs.Cases.{by-pick, and-left}
+use Rattle.refusals.proofs.Cases.{by-pick, and-left, and-right}
 use Rattle.beam.specs.declared.Beam.{Beam}
-use Rattle.pixels.specs.Marks.{Mark, ink, gap, moved, colours}
-use Rattle.pixels.specs.Writes.{perCharacter, pixels, characterMarks, leftAfter, rasterMarks, run, runMarks, runTotal, isRaster, needed, rasterCharacters, rasterRefusal, written, drawRaster, drawRuns, rasterOf}
+use Rattle.pixels.specs.Marks.{Mark, ink, gap, moved, rowEnd, colours}
+use Rattle.pixels.specs.Writes.{perCharacter, pixels, endOfRow, characterMarks, leftAfter, rasterMarks, run, runMarks, runTotal, isRaster, needed, pixelCharacters, rasterCharacters, rasterRefusal, written, drawRaster, drawRuns, rasterOf}
 use Rattle.pixels.proofs.Laying.{moved-bits}
 use Rattle.pixels.proofs.Looking.{some-per-character, valid-bits}
 use Rattle.pixels.proofs.Answering.{raster-spelt, raster-passes}
-use Rattle.balance.specs.Balance.{Call, raster, runs, bits, State, rasterTold, runsTold, after, returned, named, namedBy, inks}
+use Rattle.balance.specs.Balance.{Call, raster, runs, bits, State, rasterTold, runsTold, after, returned, named, namedBy, inks, noRowEnd}
 
 colours-append : (xs ys : List Mark) → colours (xs ++ ys) ≡ colours xs ++ colours ys
 unfolding colours
@@ -60,10 +60,16 @@ unfolding Inked pixels
 inked-pixels b zero sh v = tt
 inked-pixels b (suc n) sh v = inked-pixels b n (sh - b) v
 
-inked-raster : (beam : Beam) (n : ℕ) (chs : List ℕ) → Inked (rasterMarks beam n chs)
-unfolding rasterMarks characterMarks
-inked-raster beam n [] = inked-none
-inked-raster beam n (ch ∷ chs) = inked-append _ _ (inked-pixels _ _ _ _) (inked-raster _ _ chs)
+inked-character : (beam : Beam) (n ch : ℕ) → eqb ch endOfRow ≡ false → Inked (characterMarks beam n ch)
+unfolding characterMarks
+inked-character beam n ch e = rw e (inked-pixels (beam .bits) (min n (6 / beam .bits)) 6 (ch - 32))
+
+inked-raster : (beam : Beam) (n : ℕ) (chs : List ℤ) → every (λ v. not (eqb (natAbs v) endOfRow)) chs ≡ true → Inked (rasterMarks beam n (map natAbs chs))
+unfolding rasterMarks every
+inked-raster beam n [] e = inked-none
+inked-raster beam n (ch ∷ chs) e =
+    let other = not (eqb (natAbs ch) endOfRow) in
+    inked-append _ _ (inked-character beam n (natAbs ch) (not-true (eqb (natAbs ch) endOfRow) (and-left other _ e))) (inked-raster _ _ chs (and-right other _ e))
 
 inked-run : (c n : ℕ) → Inked (run c n)
 unfolding Inked
@@ -78,16 +84,17 @@ inked-runs b (k ∷ ks) = inked-append _ _ (inked-run (k % 2 ^ b) (k / 2 ^ b)) (
 inked-pick : (b : Bool) (ms : List Mark) → Inked ms → Inked (pick b ms [])
 inked-pick b ms i = by-pick Inked b ms [] (λ e. i) (λ e. inked-none)
 
-inked-named : (w h : ℕ) (call : Call) (st : State) → Inked (named w h call st)
-unfolding named
-inked-named w h (raster n chs) st = inked-pick (eqb (rasterTold w h n chs st .number) 0) _ (inked-raster (st .beam) (natAbs n) (map natAbs chs))
-inked-named w h (runs codes) st = inked-pick (eqb (runsTold w h codes st .number) 0) _ (inked-runs (st .beam .bits) (map natAbs codes))
-inked-named w h (bits first second third) st = inked-none
+inked-named : (w h : ℕ) (call : Call) (st : State) → noRowEnd call ≡ true → Inked (named w h call st)
+unfolding named noRowEnd
+inked-named w h (raster n chs) st e = inked-pick (eqb (rasterTold w h n chs st .number) 0) _ (inked-raster (st .beam) (natAbs n) chs e)
+inked-named w h (runs codes) st e = inked-pick (eqb (runsTold w h codes st .number) 0) _ (inked-runs (st .beam .bits) (map natAbs codes))
+inked-named w h (bits first second third) st e = inked-none
 
-pub inked-by : (w h : ℕ) (calls : List Call) (st : State) → Inked (namedBy w h calls st)
-unfolding namedBy
-inked-by w h [] st = inked-none
-inked-by w h (call ∷ calls) st = inked-append _ _ (inked-named w h call st) (inked-by w h calls (after w h call st))
+pub inked-by : (w h : ℕ) (calls : List Call) (st : State) → every noRowEnd calls ≡ true → Inked (namedBy w h calls st)
+unfolding namedBy every
+inked-by w h [] st e = inked-none
+inked-by w h (call ∷ calls) st e =
+    inked-append _ _ (inked-named w h call st (and-left (noRowEnd call) _ e)) (inked-by w h calls (after w h call st) (and-right (noRowEnd call) _ e))
 
 -- ---- how many: run codes
 
@@ -108,14 +115,34 @@ unfolding colours pixels
 tally-pixels b zero sh v = refl
 tally-pixels b (suc n) sh v = ap suc (tally-pixels b n (sh - b) v)
 
-tally-raster : (b : ℕ) (beam : Beam) → beam .bits ≡ b → (n : ℕ) (chs : List ℕ) → tally (rasterMarks beam n chs) ≡ min n (perCharacter b * length chs)
-unfolding colours rasterMarks characterMarks leftAfter
+tally-gaps : (k : ℕ) → tally (replicate k gap) ≡ 0
+unfolding colours
+tally-gaps zero = refl
+tally-gaps (suc k) = tally-gaps k
+
+tally-character : (beam : Beam) (n ch : ℕ) → tally (characterMarks beam n ch) ≡ pick (eqb ch endOfRow) 0 (min n (perCharacter (beam .bits)))
+unfolding characterMarks rowEnd
+tally-character beam n ch = go (eqb ch endOfRow)
+  where
+    m : ℕ
+    m = min n (perCharacter (beam .bits))
+
+    go : (b : Bool) → tally (pick b (rowEnd beam) (pixels (beam .bits) m 6 (ch - 32))) ≡ pick b 0 m
+    go true = tally-gaps (beam .right - beam .x + 1)
+    go false = tally-pixels (beam .bits) m 6 (ch - 32)
+
+-- a character that holds pixels takes p of n, an end-of-row none
+one-more : (b : Bool) (n p k : ℕ) → pick b 0 (min n p) + min (pick b n (n - p)) (p * k) ≡ min n (p * (pick b 0 1 + k))
+one-more true n p k = rw (zero-add k, zero-add (min n (p * k)))
+one-more false n p k = omega (arith, mul-suc p k)
+
+tally-raster : (b : ℕ) (beam : Beam) → beam .bits ≡ b → (n : ℕ) (chs : List ℕ) → tally (rasterMarks beam n chs) ≡ min n (perCharacter b * pixelCharacters chs)
+unfolding colours rasterMarks leftAfter pixelCharacters
 tally-raster b beam e n [] = omega (arith, mul-zero (6 / b))
 tally-raster b beam e n (ch ∷ chs) =
-    let ms = pixels (beam .bits) (min n (6 / beam .bits)) 6 (ch - 32) in
-    let one : tally ms ≡ min n (6 / b) = tally-pixels _ _ 6 (ch - 32) ∙ rw e in
-    let rest = tally-raster b (moved ms beam) (moved-bits ms beam ∙ e) (n - 6 / beam .bits) chs in
-    tally-append ms _ ∙ rw (one, rest, e) (omega (arith, mul-suc (6 / b) (length chs)))
+    let ms = characterMarks beam n ch in
+    let rest = tally-raster b (moved ms beam) (moved-bits ms beam ∙ e) (leftAfter beam n ch) chs in
+    tally-append ms _ ∙ rw (tally-character beam n ch, rest, e) (one-more (eqb ch endOfRow) n (6 / b) (pixelCharacters chs))
 
 -- as many characters as n pixels need have room for them
 enough : (m n : ℕ) → 0 < m → n ≤ m * ((n + m - 1) / m)
@@ -130,9 +157,10 @@ tally-accepted w h size beam n chs e =
     let b = beam .bits in
     let p = raster-passes w h size beam n chs e in
     let k : ℕ = needed b (natAbs n) in
-    let l : length chs ≡ k = eqb-true _ k (and-left (eqb (length chs) k) (every isRaster chs) (raster-spelt w h size beam n chs e)) in
+    let c : ℕ = pixelCharacters (map natAbs chs) in
+    let l : c ≡ k = eqb-true c k (and-left (eqb c k) (every isRaster chs) (raster-spelt w h size beam n chs e)) in
     let s : 0 < 6 / b = some-per-character b (pos-of-ne-zero (p .bits)) (valid-bits w h beam (p .valid)) in
-    let m : natAbs n ≤ 6 / b * length (map natAbs chs) = rw (length-map chs natAbs, l) (enough (6 / b) (natAbs n) s) in
+    let m : natAbs n ≤ 6 / b * c = rw l (enough (6 / b) (natAbs n) s) in
     tally-raster b beam refl (natAbs n) (map natAbs chs) ∙ min-eq-left m
 
 -- ---- a call returns as many as it names

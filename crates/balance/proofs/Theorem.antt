@@ -1,19 +1,19 @@
--- The balance of the pixel writes, as specs/Balance.antt states it: first for any marks, then for the colours that the calls name.
+-- The balance of the pixel writes, as specs/Balance.antt states it: first for any marks, then for those that the calls name.
 use Prim.Native.Nat.{ℕ, _+_, _<_, min}
 use mathlib.Core.Path.{_≡_, refl, sym, _∙_, ap}
 use mathlib.Core.Bool.{true}
 use mathlib.Core.List.{List, [], _∷_}
-use lib.ListN.{length, getD, set, replicate}
+use lib.ListN.{length, getD, set, replicate, length-map}
 use Rattle.refusals.proofs.Cases.{bool-apart}
 use Rattle.beam.specs.declared.Beam.{Beam}
 use Rattle.beam.specs.Validity.{isValid}
 use Rattle.beam.specs.Settings.{stepped}
-use Rattle.pixels.specs.Marks.{Mark, gap, act, place, laid, moved}
+use Rattle.pixels.specs.Marks.{Mark, ink, gap, act, place, laid, moved}
 use Rattle.pixels.specs.Writes.{isSurface}
 use Rattle.pixels.specs.Standing.{Ready}
 use Rattle.pixels.proofs.Laying.{place-lt, laid-length, moved-valid, ready-of}
-use Rattle.balance.specs.Balance.{Call, State, ran, coloursBy, count, lastOf, area, track, reached, elsewhere, isOutside, bitsAside, inks, Balanced, coloured, kept}
-use Rattle.balance.proofs.Track.{along, elsewhere-ext, balance-any, along-other, coloured-inks, kept-last}
+use Rattle.balance.specs.Balance.{Call, State, ran, namedBy, count, lastOf, area, steps, track, reached, elsewhere, lastLaid, coloured, kept, isOutside, bitsAside, inks, Balanced}
+use Rattle.balance.proofs.Track.{along, elsewhere-ext, balance-any, along-last, along-other, coloured-inks, kept-last}
 use Rattle.balance.proofs.Round.{track-round, track-inside}
 use Rattle.balance.proofs.Names.{inked-all, inked-by, returns-named}
 use Rattle.balance.proofs.Sequences.{ran-surface, ran-beam}
@@ -28,6 +28,9 @@ laid-along w h (m ∷ ms) beam s = laid-along w h ms (stepped beam) (set s (plac
 module _ {w h : ℕ} {beam : Beam} (s : List ℕ) (r : Ready w h beam (length s)) where
   track-lt : (k : ℕ) → track w h beam k < length s
   track-lt k = rw (r .whole) (place-lt (moved-valid (replicate k gap) (r .valid)))
+
+  pub places-marks : (ms : List Mark) (i : ℕ) → getD (laid w h ms beam s) i 0 ≡ lastLaid (track w h beam) ms i (getD s i 0)
+  places-marks ms i = rw (laid-along w h ms beam s) (along-last ms (track w h beam) s i track-lt)
 
   -- any marks: the colours that stay, and the bytes that no colour is laid on
   pub balance-marks : (c : ℕ) (ms : List Mark)
@@ -47,29 +50,34 @@ module _ {w h : ℕ} {beam : Beam} (s : List ℕ) (r : Ready w h beam (length s)
       rw (laid-along w h ms beam s)
       (along-other ms (track w h beam) s i (λ k e. bool-apart (sym (track-inside (r .valid) k) ∙ ap (isOutside w h beam) e ∙ o)))
 
+-- marks are steps of the beam, one each
+moved-steps : (ms : List Mark) (beam : Beam) → moved ms beam ≡ steps (length ms) beam
+unfolding moved
+moved-steps [] beam = refl
+moved-steps (m ∷ ms) beam = moved-steps ms (stepped beam)
+
 -- ---- calls
 
 module _ (w h : ℕ) (st : State) where
-  -- what calls leave is what laying their colours leaves
-  surface-laid : (calls : List Call) → ran w h calls st .surface ≡ laid w h (inks (coloursBy w h calls st)) (st .beam) (st .surface)
-  surface-laid calls = ran-surface w h calls st ∙ ap (λ (ms : List Mark). laid w h ms (st .beam) (st .surface)) (inked-all _ (inked-by w h calls st))
-
-  beam-moved : (calls : List Call) → bitsAside (ran w h calls st .beam) ≡ bitsAside (moved (inks (coloursBy w h calls st)) (st .beam))
-  beam-moved calls = ran-beam w h calls st ∙ ap (λ (ms : List Mark). bitsAside (moved ms (st .beam))) (inked-all _ (inked-by w h calls st))
+  beam-moved : (calls : List Call) → bitsAside (ran w h calls st .beam) ≡ bitsAside (steps (length (namedBy w h calls st)) (st .beam))
+  beam-moved calls = ran-beam w h calls st ∙ ap bitsAside (moved-steps (namedBy w h calls st) (st .beam))
 
 pub balanced : (w h : ℕ) (st : State) (calls : List Call)
     → isSurface w h (length (st .surface)) ≡ true → isValid w h (st .beam) ≡ true → Balanced w h st calls
 balanced w h st calls s v =
     let r : Ready w h (st .beam) (length (st .surface)) = ready-of w h (length (st .surface)) (st .beam) s v in
-    let cs : List ℕ = coloursBy w h calls st in
-    let e : ran w h calls st .surface ≡ laid w h (inks cs) (st .beam) (st .surface) = surface-laid w h st calls in
+    let ms : List Mark = namedBy w h calls st in
+    let e : ran w h calls st .surface ≡ laid w h ms (st .beam) (st .surface) = ran-surface w h calls st in
     record {
-      counts = λ c. rw e (balance-inks (st .surface) r c cs);
-      outside = λ i o. rw e (outside-marks (st .surface) r (inks cs) i o);
-      size = ap length e ∙ laid-length w h (inks cs) (st .beam) (st .surface);
+      places = λ i. rw e (places-marks (st .surface) r ms i);
+      counts = λ c. rw e (balance-marks (st .surface) r c ms);
+      outside = λ i o. rw e (outside-marks (st .surface) r ms i o);
+      size = ap length e ∙ laid-length w h ms (st .beam) (st .surface);
       surface-laid = e;
       beam-moved = beam-moved w h st calls;
-      same-surface = λ others q. surface-laid w h st others ∙ ap (λ (l : List ℕ). laid w h (inks l) (st .beam) (st .surface)) q ∙ sym e;
-      same-beam = λ others q. beam-moved w h st others ∙ ap (λ (l : List ℕ). bitsAside (moved (inks l) (st .beam))) q ∙ sym (beam-moved w h st calls);
+      same-surface = λ others q. ran-surface w h others st ∙ ap (λ (l : List Mark). laid w h l (st .beam) (st .surface)) q ∙ sym e;
+      same-beam = λ others q. beam-moved w h st others ∙ ap (λ (l : List Mark). bitsAside (steps (length l) (st .beam))) q ∙ sym (beam-moved w h st calls);
       numbers = returns-named w h;
+      without-gaps = λ cs q c. rw (e, q, length-map cs ink) (balance-inks (st .surface) r c cs);
+      no-gaps = λ p. inked-all ms (inked-by w h calls st p);
     }

@@ -7,12 +7,12 @@ use native.Mathlib.Nat.{not-suc-le-zero, le-of-suc-le-suc, suc-add}
 use native.Mathlib.Decide.{decLt}
 use native.Mathlib.Omega.{arith}
 use lib.ListN.{length, getD, set, length-set}
-use lib.Seq.{drop-nil, set-getD, getD-set-other}
+use lib.Seq.{drop-nil, set-getD, getD-set-same, getD-set-other}
 use lib.Dec.{eqb, eqb·zero-suc, eqb·suc-zero, eqb·suc-suc}
-use borrow.Author.Tests.{eqb-true, eq-eqb, ne-eqb}
+use borrow.Author.Tests.{eqb-true, eqb-false, eq-eqb, ne-eqb}
 use Rattle.refusals.specs.Answers.{pick}
 use Rattle.pixels.specs.Marks.{Mark, ink, gap, act}
-use Rattle.balance.specs.Balance.{count, lastOf, reached, elsewhere, inks, coloured, kept}
+use Rattle.balance.specs.Balance.{count, lastOf, reached, elsewhere, inks, lastLaid, coloured, kept}
 
 -- a sequence of places from its second on
 abbrev pub on : (ℕ → ℕ) → ℕ → ℕ
@@ -84,7 +84,24 @@ balance-any c (ink d ∷ ms) f s h =
     go true e ih = rw (elsewhere-ext (λ i. eqb (f 0) i || later i) later s (λ i. absorbed later (f 0) i e), ← stored-there later s (f 0) d e) ih
     go false e ih = omega (arith, stored-elsewhere c later s (f 0) d (h 0) e)
 
--- a place that the sequence does not have is as it was
+-- ---- one place after marks along a sequence
+
+stored-at : (s : List ℕ) (a i d : ℕ) → a < length s → getD (set s a d) i 0 ≡ pick (eqb a i) d (getD s i 0)
+stored-at s a i d l = go (eqb a i) refl
+  where
+    go : (b : Bool) → eqb a i ≡ b → getD (set s a d) i 0 ≡ pick b d (getD s i 0)
+    go true e = ap (λ (j : ℕ). getD (set s a d) j 0) (sym (eqb-true a i e)) ∙ getD-set-same s a d 0 l
+    go false e = getD-set-other s a i d 0 (λ q. eqb-false a i e (sym q))
+
+-- it holds the last colour laid on it
+pub along-last : (ms : List Mark) (f : ℕ → ℕ) (s : List ℕ) (i : ℕ) → ((k : ℕ) → f k < length s) → getD (along f ms s) i 0 ≡ lastLaid f ms i (getD s i 0)
+unfolding along lastLaid
+along-last [] f s i h = refl
+along-last (gap ∷ ms) f s i h = rw (set-getD s (f 0) 0) (along-last ms (on f) s i (λ k. h (suc k)))
+along-last (ink d ∷ ms) f s i h =
+    along-last ms (on f) (set s (f 0) d) i (λ k. rw (length-set s (f 0) d) (h (suc k))) ∙ ap (lastLaid (on f) ms i) (stored-at s (f 0) i d (h 0))
+
+-- one that the sequence does not have is as it was
 pub along-other : (ms : List Mark) (f : ℕ → ℕ) (s : List ℕ) (i : ℕ) → ((k : ℕ) → f k ≡ i → ⊥) → getD (along f ms s) i 0 ≡ getD s i 0
 unfolding along
 along-other [] f s i h = refl

@@ -1,18 +1,20 @@
 -- "Over any sequence of writes each colour's count follows from the list of colours named and the places not reached; nothing outside the
--- viewport changes; the cuts between writes do not matter." What this says: the record Balanced. proofs/Theorem.antt proves it.
+-- viewport changes; the cuts between writes do not matter." With the end-of-row of K1 the "list then has gaps: each place holds the last colour laid
+-- on it, gaps aside, and the counts are taken of those places. T counts gaps for the beam and not for the number returned." What this says: the
+-- record Balanced. proofs/Theorem.antt proves it.
 use Prim.Native.Nat.{ℕ, zero, suc, _+_, _-_, _*_, _/_, _%_, min}
 use mathlib.Core.Path.{_≡_}
 use mathlib.Core.Bool.{Bool, true, false, not, _||_}
 use mathlib.Core.List.{List, [], _∷_, _++_, map}
 use lib.ListN.{length, getD, drop, replicate}
 use lib.Dec.{eqb}
-use lib.IntN.{ℤ}
-use Rattle.refusals.specs.Answers.{pick}
+use lib.IntN.{ℤ, natAbs}
+use Rattle.refusals.specs.Answers.{pick, every}
 use Rattle.beam.specs.declared.Beam.{Beam}
 use Rattle.beam.specs.Validity.{inViewport}
 use Rattle.beam.specs.Settings.{withBits, setBits}
 use Rattle.pixels.specs.Marks.{Mark, ink, gap, place, laid, moved, colours}
-use Rattle.pixels.specs.Writes.{Told, rasterOf, drawRaster, rasterSurface, runsOf, drawRuns, runsSurface}
+use Rattle.pixels.specs.Writes.{Told, endOfRow, rasterOf, drawRaster, rasterSurface, runsOf, drawRuns, runsSurface}
 
 -- ---- calls: RP, RL and RU, by the definitions that their promises name
 
@@ -59,10 +61,6 @@ unfoldable pub namedBy : (w h : ℕ) → List Call → State → List Mark
 namedBy w h [] st = []
 namedBy w h (call ∷ calls) st = named w h call st ++ namedBy w h calls (after w h call st)
 
--- "the list of colours named"
-abbrev pub coloursBy : (w h : ℕ) → List Call → State → List ℕ
-coloursBy w h calls st = colours (namedBy w h calls st)
-
 -- ---- counting
 
 -- how often c stands in a list
@@ -78,9 +76,13 @@ lastOf k l = drop (length l - k) l
 abbrev pub area : Beam → ℕ
 area beam = (beam .top - beam .bottom + 1) * (beam .right - beam .left + 1)
 
--- the beam's place after k steps; a gap is a step alone
+-- the record after k steps of the beam; a gap is a step alone
+abbrev pub steps : ℕ → Beam → Beam
+steps k beam = moved (replicate k gap) beam
+
+-- the beam's place then
 abbrev pub track : (w h : ℕ) → Beam → ℕ → ℕ
-track w h beam k = place w h (moved (replicate k gap) beam)
+track w h beam k = place w h (steps k beam)
 
 -- whether i is one of the places f 0, f 1, .. f (n - 1)
 unfoldable pub reached : (f : ℕ → ℕ) → (n i : ℕ) → Bool
@@ -91,6 +93,26 @@ reached f (suc n) i = eqb (f 0) i || reached (λ k. f (suc k)) n i
 unfoldable pub elsewhere : (ℕ → Bool) → List ℕ → List ℕ
 elsewhere test [] = []
 elsewhere test (x ∷ xs) = pick (test 0) (elsewhere (λ i. test (suc i)) xs) (x ∷ elsewhere (λ i. test (suc i)) xs)
+
+-- ---- what stays of marks laid at f 0, f 1, ..
+
+-- the last colour laid on the place i, gaps aside; the old byte where there is none
+unfoldable pub lastLaid : (f : ℕ → ℕ) → List Mark → (i old : ℕ) → ℕ
+lastLaid f [] i old = old
+lastLaid f (gap ∷ ms) i old = lastLaid (λ k. f (suc k)) ms i old
+lastLaid f (ink c ∷ ms) i old = lastLaid (λ k. f (suc k)) ms i (pick (eqb (f 0) i) c old)
+
+-- whether a colour is laid on the place i
+unfoldable pub coloured : (f : ℕ → ℕ) → List Mark → (i : ℕ) → Bool
+coloured f [] i = false
+coloured f (gap ∷ ms) i = coloured (λ k. f (suc k)) ms i
+coloured f (ink c ∷ ms) i = eqb (f 0) i || coloured (λ k. f (suc k)) ms i
+
+-- the colours that no later colour covers
+unfoldable pub kept : (f : ℕ → ℕ) → List Mark → List ℕ
+kept f [] = []
+kept f (gap ∷ ms) = kept (λ k. f (suc k)) ms
+kept f (ink c ∷ ms) = pick (coloured (λ k. f (suc k)) ms (f 0)) (kept (λ k. f (suc k)) ms) (c ∷ kept (λ k. f (suc k)) ms)
 
 -- ---- the statement
 
@@ -106,45 +128,48 @@ bitsAside beam = withBits 0 beam
 abbrev pub inks : List ℕ → List Mark
 inks cs = map ink cs
 
+-- a call without a 96, and without a -96, which is refused
+unfoldable pub noRowEnd : Call → Bool
+noRowEnd (raster n chs) = every (λ v. not (eqb (natAbs v) endOfRow)) chs
+noRowEnd (runs codes) = true
+noRowEnd (bits first second third) = true
+
 module _ (w h : ℕ) (st : State) (calls : List Call) where
-  -- the state in the end, the list of colours named, their number, and the number of the viewport's places
+  -- the state in the end, and the marks named
   abbrev end : State
   end = ran w h calls st
 
-  abbrev cs : List ℕ
-  cs = coloursBy w h calls st
+  abbrev ms : List Mark
+  ms = namedBy w h calls st
+
+  -- the beam's places, one after the other, and how many of them the beam goes on: "T counts gaps for the beam"
+  abbrev f : ℕ → ℕ
+  f = track w h (st .beam)
 
   abbrev T : ℕ
-  T = length cs
+  T = length ms
 
+  -- how many places the viewport has
   abbrev A : ℕ
   A = area (st .beam)
 
   pub record Balanced : Type 0 where
-    -- "each colour's count follows from the list of colours named and the places not reached"
-    pub counts : (c : ℕ) → count c (end .surface) ≡ count c (lastOf (min T A) cs) + count c (elsewhere (reached (track w h (st .beam)) T) (st .surface))
+    -- "each place holds the last colour laid on it, gaps aside"
+    pub places : (i : ℕ) → getD (end .surface) i 0 ≡ lastLaid f ms i (getD (st .surface) i 0)
+    -- "and the counts are taken of those places": the colours that stay, and the bytes that no colour is laid on
+    pub counts : (c : ℕ) → count c (end .surface) ≡ count c (kept f ms) + count c (elsewhere (coloured f ms) (st .surface))
     -- "nothing outside the viewport changes"
     pub outside : (i : ℕ) → isOutside w h (st .beam) i ≡ true → getD (end .surface) i 0 ≡ getD (st .surface) i 0
     pub size : length (end .surface) ≡ length (st .surface)
-    -- "the cuts between writes do not matter": what is left is what laying the list leaves, the record's bits aside
-    pub surface-laid : end .surface ≡ laid w h (inks cs) (st .beam) (st .surface)
-    pub beam-moved : bitsAside (end .beam) ≡ bitsAside (moved (inks cs) (st .beam))
+    -- "the cuts between writes do not matter": what is left is what laying the list leaves, and the beam is T steps on, the record's bits aside
+    pub surface-laid : end .surface ≡ laid w h ms (st .beam) (st .surface)
+    pub beam-moved : bitsAside (end .beam) ≡ bitsAside (steps T (st .beam))
     -- so other calls that name the same list from the same state leave the same
-    pub same-surface : (others : List Call) → coloursBy w h others st ≡ cs → ran w h others st .surface ≡ end .surface
-    pub same-beam : (others : List Call) → coloursBy w h others st ≡ cs → bitsAside (ran w h others st .beam) ≡ bitsAside (end .beam)
-    -- a write "returns its number of pixels": as many as the colours that it names, whatever state it meets
+    pub same-surface : (others : List Call) → namedBy w h others st ≡ ms → ran w h others st .surface ≡ end .surface
+    pub same-beam : (others : List Call) → namedBy w h others st ≡ ms → bitsAside (ran w h others st .beam) ≡ bitsAside (end .beam)
+    -- a write "returns its number of pixels": as many as the colours that it names, gaps aside, whatever state it meets
     pub numbers : (call : Call) (met : State) → returned w h call met ≡ length (colours (named w h call met))
-
--- ---- with gaps: what stays of any marks laid at f 0, f 1, ..
-
--- whether a colour is laid on the place i
-unfoldable pub coloured : (f : ℕ → ℕ) → List Mark → (i : ℕ) → Bool
-coloured f [] i = false
-coloured f (gap ∷ ms) i = coloured (λ k. f (suc k)) ms i
-coloured f (ink c ∷ ms) i = eqb (f 0) i || coloured (λ k. f (suc k)) ms i
-
--- the colours that no later colour covers
-unfoldable pub kept : (f : ℕ → ℕ) → List Mark → List ℕ
-kept f [] = []
-kept f (gap ∷ ms) = kept (λ k. f (suc k)) ms
-kept f (ink c ∷ ms) = pick (coloured (λ k. f (suc k)) ms (f 0)) (kept (λ k. f (suc k)) ms) (c ∷ kept (λ k. f (suc k)) ms)
+    -- where the marks are all colours, "each colour's count follows from the list of colours named and the places not reached"
+    pub without-gaps : (cs : List ℕ) → ms ≡ inks cs → (c : ℕ) → count c (end .surface) ≡ count c (lastOf (min T A) cs) + count c (elsewhere (reached f T) (st .surface))
+    -- and they are where no call has a 96
+    pub no-gaps : every noRowEnd calls ≡ true → ms ≡ inks (colours ms)

@@ -1,2 +1,3 @@
 pub mod Balance
 pub mod Examples
+pub mod RowEnds

@@ -22,7 +22,7 @@ use Rattle.pixels.specs.declared.Verdict.{Verdict}
 use Rattle.pixels.specs.declared.Verdict.the-variants.{Allowed, Refused}
 use Rattle.pixels.specs.declared.Drawing.the-variants.{Drawn, NotDrawn}
 use Rattle.pixels.specs.Marks.{Mark, laid, moved}
-use Rattle.pixels.specs.Writes.{rasterMarks, runMarks, runTotal, needed, isRaster, rasterNumbers, rasterCharacters, runNumbers, rasterRefusal, runRefusal, verdictOf, drawingOf, written, surfaceAfter, drawRaster, rasterSurface, drawRuns, runsSurface}
+use Rattle.pixels.specs.Writes.{rasterMarks, runMarks, runTotal, needed, isRaster, pixelCharacters, rasterNumbers, rasterCharacters, runNumbers, rasterRefusal, runRefusal, verdictOf, drawingOf, written, surfaceAfter, drawRaster, rasterSurface, drawRuns, runsSurface}
 use Rattle.pixels.specs.Standing.{Ready}
 use Rattle.pixels.proofs.Laying.{ready-of}
 use Rattle.pixels.proofs.Looking.{Passed, passed-of, valid-bits}
@@ -88,7 +88,7 @@ module _ (w h size : ℕ) (beam : Beam) (n : ℤ) (list : List ℤ) (f : SFits w
 
   pub raster-fits : every isRaster list ≡ true
   unfolding rasterCharacters
-  raster-fits = and-right (eqb (length list) (needed (beam .bits) (natAbs n))) (every isRaster list) (raster-spelt w h size beam n list none)
+  raster-fits = and-right (eqb (pixelCharacters (map natAbs list)) (needed (beam .bits) (natAbs n))) (every isRaster list) (raster-spelt w h size beam n list none)
 
 -- N comes back from the callees' contracts as the machine reads it
 module _ (w h : ℕ) (beam : Beam) (n : ℤ) (list : List ℤ) (s : List ℕ) (f : SFits w32 n) (v : Verdict) (ev : verdictOf v ≡ rasterRefusal w h (length s) beam (toZ w32 (ofZ w32 n)) list) where

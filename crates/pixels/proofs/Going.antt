@@ -5,14 +5,18 @@ use mathlib.Core.List.{List, [], _∷_, _++_}
 use native.Mathlib.Nat.{not-suc-le-zero, mul-suc, mul-le-mul-left, min-le-right, mul-div-le, le-trans}
 use native.Mathlib.Numerals.{add-one}
 use native.Mathlib.Omega.{arith}
+use borrow.Author.Tests.{eq-eqb, ne-eqb}
+use lib.Dec.{eqb}
 use lib.ListN.{length, getD, set, drop, drop-of-length-le}
 use lib.Seq.{drop-cons}
+use Rattle.refusals.specs.Answers.{pick}
 use Rattle.beam.specs.declared.Beam.{Beam}
 use Rattle.beam.specs.Settings.{stepped}
-use Rattle.pixels.specs.Marks.{Mark, ink, place, laid, moved}
-use Rattle.pixels.specs.Writes.{perCharacter, pixels, characterMarks, leftAfter, rasterMarks, run, runMarks, runTotal}
+use Rattle.pixels.specs.Marks.{Mark, ink, place, laid, moved, rowEnd}
+use Rattle.pixels.specs.Writes.{perCharacter, pixels, endOfRow, characterMarks, leftAfter, rasterMarks, pixelCharacters, run, runMarks, runTotal}
 use Rattle.pixels.specs.Standing.{Ready}
 use Rattle.pixels.proofs.Laying.{laid-append, laid-length, moved-append, moved-valid, moved-bits}
+use Rattle.pixels.proofs.Rows.{row-kept}
 
 -- the marks ms that are left, from the record and the surface of here, come to the same end as all marks from those of the start
 pub record Going (w h : ℕ) (ms₀ : List Mark) (beam₀ : Beam) (s₀ : List ℕ) (ms : List Mark) (beam : Beam) (s : List ℕ) : Type 0 where
@@ -91,6 +95,14 @@ pub raster-none : (beam : Beam) (n : ℕ) (l : List ℕ) (i : ℕ) → length l 
 unfolding rasterMarks
 raster-none beam n l i h = rw (drop-of-length-le l h)
 
+pub characters-more : (l : List ℕ) (i : ℕ) → i < length l → pixelCharacters (drop i l) ≡ pick (eqb (getD l i 0) endOfRow) 0 1 + pixelCharacters (drop (i + 1) l)
+unfolding pixelCharacters
+characters-more l i h = rw (drop-cons l i 0 h, add-one)
+
+pub characters-none : (l : List ℕ) (i : ℕ) → length l ≤ i → pixelCharacters (drop i l) ≡ 0
+unfolding pixelCharacters
+characters-none l i h = rw (drop-of-length-le l h)
+
 pub runs-more : (b : ℕ) (l : List ℕ) (i : ℕ) → i < length l → runMarks b (drop i l) ≡ run (getD l i 0 % 2 ^ b) (getD l i 0 / 2 ^ b) ++ runMarks b (drop (i + 1) l)
 unfolding runMarks
 runs-more b l i h = rw (drop-cons l i 0 h, add-one)
@@ -113,10 +125,20 @@ module _ (beam : Beam) (n ch : ℕ) {m : ℕ} (em : m ≡ min n (6 / beam .bits)
   pub character-room : beam .bits * m ≤ 6
   character-room = rw em (room (beam .bits) n)
 
-  pub character-moved : {next : Beam} → next ≡ moved (pixels (beam .bits) m 6 (ch - 32)) beam → next ≡ moved (characterMarks beam n ch) beam
-  unfolding characterMarks
-  character-moved j = rw em at j
+  module _ (o : ch ≡ endOfRow → ⊥) where
+    pub character-moved : {next : Beam} → next ≡ moved (pixels (beam .bits) m 6 (ch - 32)) beam → next ≡ moved (characterMarks beam n ch) beam
+    unfolding characterMarks
+    character-moved j = rw (ne-eqb ch endOfRow o) (rw em at j)
 
-  pub character-laid : (w h : ℕ) (s : List ℕ) {t : List ℕ} → t ≡ laid w h (pixels (beam .bits) m 6 (ch - 32)) beam s → t ≡ laid w h (characterMarks beam n ch) beam s
+    pub character-laid : (w h : ℕ) (s : List ℕ) {t : List ℕ} → t ≡ laid w h (pixels (beam .bits) m 6 (ch - 32)) beam s → t ≡ laid w h (characterMarks beam n ch) beam s
+    unfolding characterMarks
+    character-laid w h s j = rw (ne-eqb ch endOfRow o) (rw em at j)
+
+module _ (beam : Beam) (n ch : ℕ) (e : ch ≡ endOfRow) where
+  pub end-moved : {next : Beam} → next ≡ moved (rowEnd beam) beam → next ≡ moved (characterMarks beam n ch) beam
   unfolding characterMarks
-  character-laid w h s j = rw em at j
+  end-moved j = rw (eq-eqb ch endOfRow e) j
+
+  pub end-laid : (w h : ℕ) (s : List ℕ) → s ≡ laid w h (characterMarks beam n ch) beam s
+  unfolding characterMarks
+  end-laid w h s = rw (eq-eqb ch endOfRow e) (sym (row-kept beam w h s))

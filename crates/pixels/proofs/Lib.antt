@@ -1,4 +1,5 @@
 pub mod Laying
+pub mod Rows
 pub mod Going
 pub mod Bits
 pub mod Looking

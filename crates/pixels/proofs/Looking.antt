@@ -25,7 +25,7 @@ use Rattle.beam.specs.Validity.{isSize, isBits, onSurface, inViewport, isValid}
 use Rattle.beam.proofs.Settling.{no-of, yes-of}
 use Rattle.pixels.specs.declared.Verdict.{Verdict}
 use Rattle.pixels.specs.declared.Verdict.the-variants.{Allowed, Refused}
-use Rattle.pixels.specs.Writes.{perCharacter, leftAfter, isSurface, isNumber, isRaster, mostEntries, needed, rasterNumbers, rasterCharacters, runNumbers, writeRefusal, rasterRefusal, runRefusal, verdictOf}
+use Rattle.pixels.specs.Writes.{perCharacter, endOfRow, leftAfter, pixelCharacters, isSurface, isNumber, isRaster, mostEntries, needed, rasterNumbers, rasterCharacters, runNumbers, writeRefusal, rasterRefusal, runRefusal, verdictOf}
 use Rattle.pixels.specs.Standing.{Ready}
 use Rattle.pixels.proofs.Laying.{ready-of, area-le}
 
@@ -34,9 +34,13 @@ use Rattle.pixels.proofs.Laying.{ready-of, area-le}
 pub entry-at : (l : List ℤ) (i : ℕ) {m : ℕ} → SFits w32 (getD l i (pos 0)) → m ≡ natAbs (toZ w32 (ofZ w32 (getD l i (pos 0)))) → m ≡ getD (map natAbs l) i 0
 entry-at l i f e = (rw (toZ-ofZ f) at e) ∙ sym (List·getD-map natAbs l i (pos 0))
 
-pub left-so : (beam : Beam) (n ch : ℕ) {m : ℕ} → m ≡ min n (6 / beam .bits) → n - m ≡ leftAfter beam n ch
+pub left-so : (beam : Beam) (n ch : ℕ) {m : ℕ} → (ch ≡ endOfRow → ⊥) → m ≡ min n (6 / beam .bits) → n - m ≡ leftAfter beam n ch
 unfolding leftAfter
-left-so beam n ch e = omega (arith, e)
+left-so beam n ch o e = rw (ne-eqb ch endOfRow o) (omega (arith, e))
+
+pub left-same : (beam : Beam) (n ch : ℕ) → ch ≡ endOfRow → n ≡ leftAfter beam n ch
+unfolding leftAfter
+left-same beam n ch e = rw (eq-eqb ch endOfRow e)
 
 -- what passes for each passes for the one at i
 pub every-at : {A : Type 0} (ok : A → Bool) (l : List A) (d : A) (i : ℕ) → every ok l ≡ true → i < length l → ok (getD l i d) ≡ true
@@ -107,13 +111,14 @@ module _ (n : ℤ) (list : List ℤ) where
     full : (m + 6 / bits - 1) / (6 / bits) ≡ needed bits (natAbs n)
     full = ap (λ (k : ℕ). (k + 6 / bits - 1) / (6 / bits)) (rw (toZ-ofZ f) at em)
 
-    pub characters-tested : length list ≡ (m + 6 / bits - 1) / (6 / bits) → {q : Bool} → q ≡ every (within 32 95) list → q ≡ rasterCharacters bits n list
-    unfolding rasterCharacters
-    characters-tested h j = rw (eq-eqb (length list) (needed bits (natAbs n)) (h ∙ full)) j
+    module _ {k : ℕ} (ek : k ≡ pixelCharacters (map natAbs list)) where
+      pub characters-tested : k ≡ (m + 6 / bits - 1) / (6 / bits) → {q : Bool} → q ≡ every (within 32 96) list → q ≡ rasterCharacters bits n list
+      unfolding rasterCharacters
+      characters-tested h j = rw (eq-eqb (pixelCharacters (map natAbs list)) (needed bits (natAbs n)) (sym ek ∙ h ∙ full)) j
 
-    pub wrong-count : (length list ≡ (m + 6 / bits - 1) / (6 / bits) → ⊥) → false ≡ rasterCharacters bits n list
-    unfolding rasterCharacters
-    wrong-count h = rw (ne-eqb (length list) (needed bits (natAbs n)) (λ e. h (e ∙ sym full)))
+      pub wrong-count : (k ≡ (m + 6 / bits - 1) / (6 / bits) → ⊥) → false ≡ rasterCharacters bits n list
+      unfolding rasterCharacters
+      wrong-count h = rw (ne-eqb (pixelCharacters (map natAbs list)) (needed bits (natAbs n)) (λ e. h (ek ∙ e ∙ sym full)))
 
 module _ (list : List ℤ) where
   pub too-many-codes : mostEntries < length list → false ≡ runNumbers list

@@ -2,7 +2,7 @@
 -- its byte stays. "Each pixel is stored at the beam; the beam goes right, then .."
 use Prim.Native.Nat.{ℕ, zero, suc, _+_, _-_, _*_}
 use mathlib.Core.List.{List, [], _∷_}
-use lib.ListN.{getD, set}
+use lib.ListN.{getD, set, replicate}
 use Rattle.beam.specs.declared.Beam.{Beam}
 use Rattle.beam.specs.Settings.{stepped}
 
@@ -34,3 +34,8 @@ unfoldable pub colours : List Mark → List ℕ
 colours [] = []
 colours (ink c ∷ ms) = c ∷ colours ms
 colours (gap ∷ ms) = colours ms
+
+-- K1: "In RP a 96 sends the beam to the left edge of the row below, round to the top after the last, even from a left edge." The beam passes its
+-- own place and the others up to the last of its row; proofs/Rows.antt proves that this leads there and keeps every byte.
+unfoldable pub rowEnd : Beam → List Mark
+rowEnd beam = replicate (beam .right - beam .x + 1) gap

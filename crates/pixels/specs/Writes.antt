@@ -1,6 +1,7 @@
 -- The two pixel writes. "RP names N pixels, N not negative. Each character is 32 plus six bits, 32..95, and takes its pixels from the top bits
 -- down, 6/bits to a character. There must be exactly as many characters as N needs; spare low bits are not looked at. RL holds codes, none
--- negative: length times 2^bits plus colour (house rule: length 0 places nothing)."
+-- negative: length times 2^bits plus colour (house rule: length 0 places nothing)." And the end-of-row of K1: "Whole characters before it keep all
+-- their pixels. Places passed over aren't counted in N. Characters other than 96 must still be just as many as N needs."
 use Prim.Native.Nat.{ℕ, zero, suc, _+_, _-_, _*_, _/_, _%_, _^_, min}
 use mathlib.Core.Bool.{Bool, true, false, not, _&&_}
 use mathlib.Core.List.{List, [], _∷_, _++_, map}
@@ -16,7 +17,7 @@ use Rattle.pixels.specs.declared.Drawing.{Drawing}
 use Rattle.pixels.specs.declared.Drawing.the-variants.{Drawn, NotDrawn}
 use Rattle.pixels.specs.declared.Verdict.{Verdict}
 use Rattle.pixels.specs.declared.Verdict.the-variants.{Allowed, Refused}
-use Rattle.pixels.specs.Marks.{Mark, ink, laid, moved}
+use Rattle.pixels.specs.Marks.{Mark, ink, laid, moved, rowEnd}
 
 -- ---- the marks of a write
 
@@ -29,13 +30,17 @@ unfoldable pub pixels : (bits n sh v : ℕ) → List Mark
 pixels bits zero sh v = []
 pixels bits (suc n) sh v = ink (v / 2 ^ (sh - bits) % 2 ^ bits) ∷ pixels bits n (sh - bits) v
 
+-- the end-of-row character
+abbrev pub endOfRow : ℕ
+endOfRow = 96
+
 -- one character's marks where n pixels are still to be named
 unfoldable pub characterMarks : Beam → (n ch : ℕ) → List Mark
-characterMarks beam n ch = pixels (beam .bits) (min n (perCharacter (beam .bits))) 6 (ch - 32)
+characterMarks beam n ch = pick (eqb ch endOfRow) (rowEnd beam) (pixels (beam .bits) (min n (perCharacter (beam .bits))) 6 (ch - 32))
 
--- what is then left of n
+-- what is then left of n: places passed over are not counted
 unfoldable pub leftAfter : Beam → (n ch : ℕ) → ℕ
-leftAfter beam n ch = n - perCharacter (beam .bits)
+leftAfter beam n ch = pick (eqb ch endOfRow) n (n - perCharacter (beam .bits))
 
 unfoldable pub rasterMarks : Beam → ℕ → List ℕ → List Mark
 rasterMarks beam n [] = []
@@ -56,7 +61,7 @@ runTotal bits [] = 0
 runTotal bits (k ∷ ks) = k / 2 ^ bits + runTotal bits ks
 
 -- ---- "Order: 11, 8 for the record, 9, 8 for a number outside 0..32767 (in RP that is N alone, in RL each code) or a list of more than 256,
--- then 10 for a character outside 32..95 or a wrong number of them."
+-- then 10 for a character outside 32..95 or a wrong number of them." K1: "10 as before, with 96 now allowed."
 
 -- "the lent bytes number exactly W times H"
 unfoldable pub isSurface : (w h size : ℕ) → Bool
@@ -66,7 +71,7 @@ abbrev pub isNumber : ℤ → Bool
 isNumber v = within 0 32767 v
 
 abbrev pub isRaster : ℤ → Bool
-isRaster v = within 32 95 v
+isRaster v = within 32 endOfRow v
 
 abbrev pub mostEntries : ℕ
 mostEntries = 256
@@ -75,11 +80,16 @@ mostEntries = 256
 abbrev pub needed : (bits n : ℕ) → ℕ
 needed bits n = (n + perCharacter bits - 1) / perCharacter bits
 
+-- how many of the characters are other than 96
+unfoldable pub pixelCharacters : List ℕ → ℕ
+pixelCharacters [] = 0
+pixelCharacters (ch ∷ chs) = pick (eqb ch endOfRow) 0 1 + pixelCharacters chs
+
 unfoldable pub rasterNumbers : ℤ → List ℤ → Bool
 rasterNumbers n chs = leb (length chs) mostEntries && isNumber n
 
 unfoldable pub rasterCharacters : (bits : ℕ) → ℤ → List ℤ → Bool
-rasterCharacters bits n chs = eqb (length chs) (needed bits (natAbs n)) && every isRaster chs
+rasterCharacters bits n chs = eqb (pixelCharacters (map natAbs chs)) (needed bits (natAbs n)) && every isRaster chs
 
 unfoldable pub runNumbers : List ℤ → Bool
 runNumbers codes = leb (length codes) mostEntries && every isNumber codes

@@ -8,8 +8,8 @@ ghost use lib.ListN.{length, set, getD};
 ghost use lib.IntN.{natAbs};
 ghost use Rattle.refusals.specs.Answers.{every};
 ghost use Rattle.beam.specs.Settings.{stepped};
-ghost use Rattle.pixels.specs.Marks.{place, laid, moved};
-ghost use Rattle.pixels.specs.Writes.{pixels, characterMarks, leftAfter, run, rasterMarks, runMarks, runTotal, isSurface, isRaster, rasterNumbers, rasterCharacters, runNumbers, writeRefusal, rasterRefusal, runRefusal, verdictOf, drawingOf, drawRaster, rasterSurface, drawRuns, runsSurface};
+ghost use Rattle.pixels.specs.Marks.{place, laid, moved, rowEnd};
+ghost use Rattle.pixels.specs.Writes.{pixels, characterMarks, leftAfter, run, rasterMarks, runMarks, runTotal, isSurface, isRaster, pixelCharacters, rasterNumbers, rasterCharacters, runNumbers, writeRefusal, rasterRefusal, runRefusal, verdictOf, drawingOf, drawRaster, rasterSurface, drawRuns, runsSurface};
 ghost use Rattle.pixels.specs.Standing.{Ready};
 use beam::Beam;
 use refusals::Refusal;
@@ -29,6 +29,9 @@ enum Verdict {
 
 // "a list of more than 256"
 const MOST_ENTRIES: usize = 256;
+
+// The end-of-row character.
+const END_OF_ROW: usize = 96;
 
 // ---- laying
 
@@ -84,23 +87,39 @@ fn least(a: usize, b: usize) -> usize
     if a < b { a } else { b }
 }
 
-// One raster character where `n` pixels are still to be named: "32 plus six bits", "6/bits to a character".
+// An end-of-row: the beam goes "to the left edge of the row below, round to the top after the last", and no byte is touched.
+fn row_end(beam: Beam) -> Beam
+    requires { ⌜ beam .x ≤ beam .right ⌝ }
+    ensures { λ r. ⌜ r ≡ moved (rowEnd beam) beam ⌝ }
+{
+    let mut last = beam;
+    last.x = beam.right;
+    beam::step(last)
+}
+
+// One raster character where `n` pixels are still to be named: "32 plus six bits", "6/bits to a character"; or an end-of-row.
 fn lay_character(surface: &mut [u8], w: usize, h: usize, beam: Beam, n: usize, ch: usize) -> Beam
     requires { ⌜ Ready w h beam (length (now surface)) ⌝ }
     requires { ⌜ (0 < beam .bits) × ((beam .bits ≤ 6) × (32 ≤ ch)) ⌝ }
     ensures { λ r. ⌜ (r ≡ moved (characterMarks beam n ch) beam) × (now (surface .exit) ≡ laid w h (characterMarks beam n ch) beam (now (surface .entry))) ⌝ }
 {
+    if ch == END_OF_ROW {
+        return row_end(beam);
+    }
     let per = 6 / beam.bits;
     let six = ch - 32;
     let some = least(n, per);
     lay_pixels(surface, w, h, beam, six, some)
 }
 
-// What is then left of `n`.
+// What is then left of `n`: "Places passed over aren't counted in N."
 fn left_after(beam: Beam, n: usize, ch: usize) -> usize
     requires { ⌜ 0 < beam .bits ⌝ }
     ensures { λ r. ⌜ r ≡ leftAfter beam n ch ⌝ }
 {
+    if ch == END_OF_ROW {
+        return n;
+    }
     let per = 6 / beam.bits;
     n - least(n, per)
 }
@@ -191,7 +210,23 @@ fn are_raster_numbers(n: i32, list: &[i32]) -> bool
     ranges::is_within(0, 32767, n)
 }
 
-// As many characters as `n` needs, and each of them 32..95.
+// How many of the characters hold pixels: all but the ends of rows.
+fn pixel_characters(list: &[i32]) -> usize
+    ensures { λ r. ⌜ r ≡ pixelCharacters (map natAbs (now (list .entry))) ⌝ }
+{
+    let mut count: usize = 0;
+    let mut i = 0;
+    while i < list.len() {
+        let ch = entry(list, i);
+        if ch != END_OF_ROW {
+            count += 1;
+        }
+        i += 1;
+    }
+    count
+}
+
+// "Characters other than 96 must still be just as many as N needs", and each character is 32..96.
 fn are_raster_characters(bits: usize, n: i32, list: &[i32]) -> bool
     requires { ⌜ (0 < bits) × (bits ≤ 6) ⌝ }
     ensures { λ r. ⌜ r ≡ rasterCharacters bits n (now (list .entry)) ⌝ }
@@ -199,8 +234,8 @@ fn are_raster_characters(bits: usize, n: i32, list: &[i32]) -> bool
     let per = 6 / bits;
     let count = numbers::magnitude(n) as usize;
     let full = count + per - 1;
-    if list.len() == full / per {
-        return ranges::are_within(32, 95, list);
+    if pixel_characters(list) == full / per {
+        return ranges::are_within(32, 96, list);
     }
     false
 }

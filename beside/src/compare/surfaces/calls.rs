@@ -5,6 +5,9 @@ use std::fmt;
 use crate::compare::case::in_decimal;
 use crate::compare::shrinking::{lesser, lower, lowered_array, with_each};
 
+/// RP's end of row.
+pub const END_OF_ROW: i32 = 96;
+
 /// The names of a record's fields, in the order of the header.
 const FIELDS: [&str; 7] = ["bits", "left", "bottom", "right", "top", "x", "y"];
 
@@ -52,15 +55,22 @@ impl What {
     }
 }
 
-/// With fewer pixels go fewer characters: one thing alone would mostly be refused.
+/// With fewer pixels go fewer characters: one thing alone would mostly be refused. The ends of row may stay.
 fn smaller_rasters(n: i32, characters: &[i32]) -> Vec<What> {
     let raster = |n: i32, characters: &[i32]| What::Raster {
         n,
         characters: characters.to_vec(),
     };
+    let is_named = |&character: &i32| character != END_OF_ROW;
+    let first = characters.iter().position(is_named);
+    let last = characters.iter().rposition(is_named);
     let mut rasters = Vec::new();
     for n in lower(n) {
         rasters.push(raster(n, characters));
+        for place in first.into_iter().chain(last) {
+            let others = [&characters[..place], &characters[place + 1..]];
+            rasters.push(raster(n, &others.concat()));
+        }
         for left in lower(characters.len()) {
             rasters.push(raster(n, &characters[..left]));
         }

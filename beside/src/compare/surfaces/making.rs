@@ -2,7 +2,7 @@
 
 use second::record::Size;
 
-use super::calls::{Call, What};
+use super::calls::{Call, What, END_OF_ROW};
 use super::sequence::Sequence;
 use super::side::{record_of, Side};
 use crate::compare::draws::Draws;
@@ -23,7 +23,7 @@ const ODD_NUMBERS: [i32; 12] = [
     i32::MIN,
     i32::MAX,
 ];
-const ODD_ENTRIES: [i32; 10] = [-1, 0, 31, 32, 95, 96, 32767, 32768, i32::MIN, i32::MAX];
+const ODD_ENTRIES: [i32; 11] = [-1, 0, 31, 32, 95, 96, 97, 32767, 32768, i32::MIN, i32::MAX];
 const ODD_BITS: [i32; 8] = [-1, 0, 4, 5, 7, 8, 65, i32::MIN];
 
 /// Settings alone.
@@ -207,6 +207,9 @@ fn draw_raster(draws: &mut Draws, bits: usize) -> What {
     let count = n.div_ceil(in_character);
     let mut n = n as i32;
     let mut characters: Vec<i32> = (0..count).map(|_| draws.between(32, 95)).collect();
+    if draws.one_in(2) {
+        put_ends_of_row(draws, &mut characters);
+    }
     for _ in 0..2 {
         match draws.below(40) {
             0 => n = draws.one_of(&ODD_NUMBERS),
@@ -214,10 +217,24 @@ fn draw_raster(draws: &mut Draws, bits: usize) -> What {
             2 => n += draws.between(1, 6),
             3 => spoil_list(draws, &mut characters),
             4 => drop(characters.pop()),
+            // As if N needed the ends of row too.
+            5 => n = (characters.len() * in_character) as i32,
             _ => {}
         }
     }
     What::Raster { n, characters }
+}
+
+/// Some anywhere; now and then as many as a list can have, or about that.
+fn put_ends_of_row(draws: &mut Draws, characters: &mut Vec<i32>) {
+    let ends = match draws.below(64) {
+        0 => (254 + draws.below(4)).saturating_sub(characters.len()),
+        _ => 1 + draws.below(4),
+    };
+    for _ in 0..ends {
+        let place = draws.below(characters.len() + 1);
+        characters.insert(place, END_OF_ROW);
+    }
 }
 
 fn draw_runs(draws: &mut Draws, bits: usize) -> What {

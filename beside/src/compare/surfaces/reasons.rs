@@ -2,7 +2,7 @@
 
 use second::record::Size;
 
-use super::calls::{Call, What};
+use super::calls::{Call, What, END_OF_ROW};
 use super::side::record_of;
 
 const SIDES: std::ops::RangeInclusive<usize> = 1..=512;
@@ -55,19 +55,22 @@ fn is_value_wrong(call: &Call) -> bool {
     }
 }
 
-/// A character outside, or, where bits and N are there to tell, a wrong number of them.
+/// A character outside, or, where bits and N are there to tell, a wrong number of those that are no ends of row.
 fn is_raster_wrong(call: &Call, bits: usize) -> bool {
     let What::Raster { n, characters } = &call.what else {
         return false;
     };
+    let others = characters
+        .iter()
+        .filter(|&&character| character != END_OF_ROW);
     let is_number_wrong = match (bits, usize::try_from(*n)) {
-        (1 | 2 | 3 | 6, Ok(n)) => n.div_ceil(6 / bits) != characters.len(),
+        (1 | 2 | 3 | 6, Ok(n)) => n.div_ceil(6 / bits) != others.count(),
         _ => false,
     };
     is_number_wrong
         || !characters
             .iter()
-            .all(|character| (32..=95).contains(character))
+            .all(|character| (32..=END_OF_ROW).contains(character))
 }
 
 #[cfg(test)]
@@ -97,6 +100,10 @@ mod tests {
         assert_eq!(reasons(&good, fresh), [9]);
         assert_eq!(reasons(&good, wrong), [8, 9]);
         assert_eq!(reasons(&raster(3, 5, 3, &[42]), three_bits), [11, 10]);
+        assert_eq!(reasons(&raster(3, 6, 2, &[96, 42, 96]), three_bits), []);
+        assert_eq!(reasons(&raster(3, 6, 3, &[42, 96]), three_bits), [10]);
+        assert_eq!(reasons(&raster(3, 6, 0, &[96; 257]), three_bits), [8]);
+        assert_eq!(reasons(&raster(3, 6, 2, &[42, 97]), three_bits), [10]);
         assert_eq!(reasons(&raster(0, 0, -1, &[31]), fresh), [11, 8, 9, 10]);
     }
 }

@@ -3,6 +3,7 @@
 use std::fmt;
 
 use super::calls::Call;
+use super::ends::met;
 use super::reasons::reasons;
 use super::side::Side;
 use crate::compare::case::{in_decimal, labelled, numbered, same, Case, Difference};
@@ -67,7 +68,7 @@ impl Case for Sequence {
             second.by_second(call);
             same(|| format!("{}. {call}", index + 1), &archive, &second)?;
             match second.number {
-                0 => row.answer(0),
+                0 => row.done(&met(&call.what, record)),
                 number => row.refusal(number, &reasons(call, record)),
             }
         }

@@ -24,9 +24,12 @@ sub-full c =
     let start = c .before in
     omega (arith, some-per-character (start .args .bits) (start .pre .0) (start .pre .1))
 
+pixel-characters-requires : tie.Need-pixel-characters-requires
+pixel-characters-requires c κs = search needs
+
 div-if1 : tie.Need-div-if1
 div-if1 c =
-    let start = c .before in
+    let start = c .before .before in
     some-per-character (start .args .bits) (start .pre .0) (start .pre .1)
 
 are-within-requires : tie.Need-are-within-requires
@@ -47,6 +50,7 @@ are-raster-characters-spec =
     cast-count
     add-full
     sub-full
+    pixel-characters-requires
     div-if1
     are-within-requires
     returns

@@ -33,7 +33,7 @@ lay-character-requires c κs =
     let at-loop = in-loop .before in
     let start = at-loop .before .before in
     let b : at-loop .loop .next .bits ≡ start .args .beam .bits = at-loop .loop .inv .1 .depth in
-    let e = entry-within 32 95 (start .args .list .now) (at-loop .loop .i) (start .pre .1 .1) (in-loop .loop-test .taken) in
+    let e = entry-within 32 96 (start .args .list .now) (at-loop .loop .i) (start .pre .1 .1) (in-loop .loop-test .taken) in
     (at-loop .loop .inv .1 .ready, (omega arith, (omega arith, omega (arith, e, c .before .before .entry .ensures))))
 
 add-i : tie.Need-add-i Inv-loop μ-loop

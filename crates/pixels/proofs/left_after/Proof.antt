@@ -1,7 +1,10 @@
-use Rattle.pixels.proofs.Looking.{left-so}
+use Rattle.pixels.proofs.Looking.{left-so, left-same}
 use borrow.Author.Needs.{needs}
 use Rattle.pixels.proofs.left_after.Statement.{statement}
 use Rattle.pixels.proofs.left_after.Tie as tie
+
+returns : tie.Need-returns
+returns c = search (needs, left-same)
 
 div-per : tie.Need-div-per
 div-per c = search needs
@@ -12,8 +15,8 @@ least-requires c κs = search needs
 sub-result : tie.Need-sub-result
 sub-result c = search needs
 
-returns : tie.Need-returns
-returns c = search (needs, left-so)
+returns-2 : tie.Need-returns-2
+returns-2 c = search (needs, left-so)
 
 pub left-after-spec : {M : Type 1} → statement M
-left-after-spec = tie.close (tie.spec div-per least-requires sub-result returns)
+left-after-spec = tie.close (tie.spec returns div-per least-requires sub-result returns-2)
