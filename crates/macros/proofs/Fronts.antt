@@ -14,7 +14,7 @@ use lib.ListN.{length, getD, take, drop, length-drop}
 use lib.Seq.{getD-drop, drop-drop, take-all}
 use Rattle.refusals.specs.Answers.{every, pick}
 use Rattle.refusals.proofs.Cases.{by-pick, bool-apart}
-use Rattle.refusals.proofs.Many.{Checking, checking-none, checking-end, checking-more, checking-no}
+use Rattle.refusals.proofs.Many.{Checking, checking-none, checking-end, checking-more}
 use Rattle.macros.specs.declared.Header.{Header}
 use Rattle.macros.specs.declared.Front.{Front}
 use Rattle.macros.specs.declared.Front.the-variants.{Here, NoEntry}
@@ -28,14 +28,10 @@ use Rattle.macros.proofs.Reading.{stands, body-long, entryIn, restFrom,
 
 -- ---- no byte above a bound
 
-module _ (most : ℕ) (l : List ℕ) (i : ℕ) (f : Checking (atMost most) l i) (h : i < length l) where
-  pub low-enough : getD l i 0 ≤ most → Checking (atMost most) l (i + 1)
-  low-enough g = checking-more (atMost most) l 0 i f h (getD l i 0) refl refl (le-leb (getD l i 0) most g)
+pub byte-more : (most : ℕ) (l : List ℕ) (i : ℕ) {good next : Bool} → Checking (atMost most) l i good → i < length l → next ≡ good && leb (getD l i 0) most → Checking (atMost most) l (i + 1) next
+byte-more most l i f h e = checking-more (atMost most) l 0 i (getD l i 0) f h refl refl e
 
-  pub too-high : most < getD l i 0 → false ≡ every (atMost most) l
-  too-high g = checking-no (atMost most) l 0 i f h (getD l i 0) refl refl (lt-leb (getD l i 0) most g)
-
-pub ruleset bounds = (checking-none, low-enough, too-high, checking-end)
+pub ruleset bounds = (checking-none, byte-more, checking-end)
 
 -- ---- a header
 

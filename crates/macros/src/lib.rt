@@ -73,14 +73,12 @@ fn none_above(part: &[u8], most: u8) -> bool
     ensures { λ r. ⌜ r ≡ every (atMost most) (now (part .entry)) ⌝ }
 {
     let mut i = 0;
+    let mut good = true;
     while i < part.len() {
-        if part[i] <= most {
-            i += 1;
-        } else {
-            return false;
-        }
+        good = refusals::both(good, part[i] <= most);
+        i += 1;
     }
-    true
+    good
 }
 
 // The byte at a place, as a number.

@@ -5,6 +5,7 @@ use mathlib.Core.Bool.{Bool, true, false}
 use mathlib.Core.List.{List}
 use native.Mathlib.Omega.{arith}
 use borrow.Author.Tests.{lt-ltb, le-ltb, le-leb, lt-leb}
+use lib.Dec.{ltb}
 use lib.IntN.{ℤ, natAbs}
 use mir.Syntax.{w32}
 use mir.Val.{SFits, toZ, ofZ}
@@ -25,22 +26,14 @@ use Rattle.numbers.specs.Counts.{countIn, countAt, countOf}
 
 -- ---- the low byte
 
-module _ (h b p n : ℕ) where
-  pub low-minus : {x : ℤ} → b < 48 → h * 16 + b % 16 ≤ 32768 → x ≡ signedOf (h * 16 + b % 16) true → integerOf (Integer x p n) ≡ lowByte h b p n
+module _ (h b p n : ℕ) {l : ℕ} (el : l ≡ limit (ltb b 48)) where
+  pub low-in : {x : ℤ} → h * 16 + b % 16 ≤ l → x ≡ signedOf (h * 16 + b % 16) (ltb b 48) → integerOf (Integer x p n) ≡ lowByte h b p n
   unfolding integerOf
-  low-minus l r e = rw (e, lt-ltb b 48 l, le-leb (h * 16 + b % 16) 32768 r)
+  low-in r e = rw (e, ← el, le-leb (h * 16 + b % 16) l r)
 
-  pub low-plus : {x : ℤ} → 48 ≤ b → h * 16 + b % 16 ≤ 32767 → x ≡ signedOf (h * 16 + b % 16) false → integerOf (Integer x p n) ≡ lowByte h b p n
+  pub low-out : l < h * 16 + b % 16 → integerOf (NoInteger IntegerOutside p) ≡ lowByte h b p n
   unfolding integerOf
-  low-plus l r e = rw (e, le-ltb b 48 l, le-leb (h * 16 + b % 16) 32767 r)
-
-  pub low-under : b < 48 → 32768 < h * 16 + b % 16 → integerOf (NoInteger IntegerOutside p) ≡ lowByte h b p n
-  unfolding integerOf
-  low-under l r = rw (lt-ltb b 48 l, lt-leb (h * 16 + b % 16) 32768 r)
-
-  pub low-over : 48 ≤ b → 32767 < h * 16 + b % 16 → integerOf (NoInteger IntegerOutside p) ≡ lowByte h b p n
-  unfolding integerOf
-  low-over l r = rw (le-ltb b 48 l, lt-leb (h * 16 + b % 16) 32767 r)
+  low-out r = rw (← el, lt-leb (h * 16 + b % 16) l r)
 
 -- ---- one byte of an integer
 

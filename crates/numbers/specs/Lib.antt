@@ -1,2 +1,3 @@
 pub mod Integers
 pub mod Counts
+pub mod Three

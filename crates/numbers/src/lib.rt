@@ -1,12 +1,15 @@
 // Integers and counts of the host syntax: read from any place of any bytes, and written in their shortest spelling.
 ghost use mathlib.Core.Path.{_≡_};
-ghost use Prim.Native.Nat.{_<_, _≤_};
+ghost use mathlib.Core.Bool.{true};
+ghost use Prim.Native.Nat.{_<_, _≤_, _*_};
 ghost use lib.ListN.{length};
 ghost use lib.Seq.{sets};
 ghost use lib.Dec.{leb};
 ghost use lib.IntN.{natAbs, pos};
+ghost use Rattle.wire.specs.Taking.{threeAhead};
 ghost use Rattle.wire.specs.Sending.{sent, afterWrite, writtenOf, Spells, poured};
 ghost use Rattle.numbers.specs.Integers.{signedOf, isNegative, limit, lowByte, integerFrom, integerAt, integerOf, lowOf, spellOf, spell, isInteger, writeInteger};
+ghost use Rattle.numbers.specs.Three.{highsBefore, highValue};
 ghost use Rattle.numbers.specs.Counts.{countIn, countAt, countOf, mostEntries, writeCount};
 use memory::Remembered;
 use refusals::Refusal;
@@ -76,16 +79,11 @@ fn low_byte(high: u16, low: u8, place: usize, next: usize) -> IntegerRead
     ensures { λ r. ⌜ integerOf r ≡ lowByte high low place next ⌝ }
 {
     let mag = high * 16 + (low % 16) as u16;
-    if low < 48 {
-        if mag <= 32768 {
-            return IntegerRead::Integer(signed(mag, true), place, next);
-        }
+    let negative = low < 48;
+    if mag as u32 > limit_of(negative) {
         return IntegerRead::NoInteger(Refusal::IntegerOutside, place);
     }
-    if mag <= 32767 {
-        return IntegerRead::Integer(signed(mag, false), place, next);
-    }
-    IntegerRead::NoInteger(Refusal::IntegerOutside, place)
+    IntegerRead::Integer(signed(mag, negative), place, next)
 }
 
 // The low byte, where two high bytes of value `high` stand before it.
@@ -121,7 +119,8 @@ fn after_one(kept: Remembered, s: &[u8], at: usize, high: u16) -> IntegerRead
     }
 }
 
-pub fn read_integer(kept: Remembered, s: &[u8], at: usize) -> IntegerRead
+// An integer byte by byte.
+fn by_bytes(kept: Remembered, s: &[u8], at: usize) -> IntegerRead
     ensures { λ r. ⌜ integerOf r ≡ integerAt kept (now (s .entry)) at ⌝ }
 {
     match wire::take(kept, s, at) {
@@ -134,6 +133,61 @@ pub fn read_integer(kept: Remembered, s: &[u8], at: usize) -> IntegerRead
         }
         ByteRead::NoByte(e, p) => IntegerRead::NoInteger(e, p),
     }
+}
+
+// How many high bytes stand before the low byte, by the two bytes that come first. It is a sum: which number it will be is not to be
+// foreseen, and a processor that guesses wrong loses more time than all the rest takes.
+fn highs_before(a: u8, b: u8) -> usize
+    requires { ⌜ (a < 128) × (b < 128) ⌝ }
+    ensures { λ r. ⌜ r ≡ highsBefore a b ⌝ }
+{
+    let one = a / 64;
+    let two = (one + b / 64) / 2;
+    (one + two) as usize
+}
+
+// The number, or 0 where the flag is 0; a product, for the same reason.
+fn only_if(flag: u16, v: u16) -> u16
+    requires { ⌜ flag ≤ 1 ⌝ }
+    ensures { λ r. ⌜ (r ≡ flag * v) × (r ≤ v) ⌝ }
+{
+    flag * v
+}
+
+// What those high bytes are worth.
+fn high_value(a: u8, b: u8) -> u16
+    requires { ⌜ (a < 128) × (b < 128) ⌝ }
+    ensures { λ r. ⌜ r ≡ highValue a b ⌝ }
+{
+    let one = (a / 64) as u16;
+    let two = (one + (b / 64) as u16) / 2;
+    let high = only_if(one, (a % 64) as u16);
+    high + only_if(two, 63 * high + (b % 64) as u16)
+}
+
+// An integer whose bytes are among three that are taken as they stand.
+fn among_three(kept: Remembered, s: &[u8], at: usize) -> IntegerRead
+    requires { ⌜ threeAhead (now s) at ≡ true ⌝ }
+    ensures { λ r. ⌜ integerOf r ≡ integerAt kept (now (s .entry)) at ⌝ }
+{
+    let a = s[at];
+    let b = s[at + 1];
+    let place = at + highs_before(a, b);
+    let low = s[place];
+    if low < 64 {
+        let next = place + 1;
+        return low_byte(high_value(a, b), low, place, next);
+    }
+    IntegerRead::NoInteger(Refusal::IntegerOutside, place)
+}
+
+pub fn read_integer(kept: Remembered, s: &[u8], at: usize) -> IntegerRead
+    ensures { λ r. ⌜ integerOf r ≡ integerAt kept (now (s .entry)) at ⌝ }
+{
+    if wire::three_ahead(s, at) {
+        return among_three(kept, s, at);
+    }
+    by_bytes(kept, s, at)
 }
 
 // An integer that was read, as a count of at most `most`.

@@ -224,15 +224,6 @@ pub fn read_point(kept: Remembered, s: &[u8], at: usize) -> PointRead
 
 // ---- writing
 
-fn both(a: bool, b: bool) -> bool
-    ensures { λ r. ⌜ r ≡ a && b ⌝ }
-{
-    if a {
-        return b;
-    }
-    false
-}
-
 // The spelling with one byte more, or as it is where that byte is left out.
 fn with_byte(w: Spelling, omit: bool, b: u8) -> Spelling
     requires { ⌜ w .len < 5 ⌝ }
@@ -255,7 +246,7 @@ fn spell(a: PointBytes, b: PointBytes) -> Spelling
     let hiy = a.hiy == b.hiy;
     let extra = a.extra == b.extra;
     let hix = a.hix == b.hix;
-    let loy = both(a.loy == b.loy, both(extra, hix));
+    let loy = refusals::both(a.loy == b.loy, refusals::both(extra, hix));
     let none = Spelling {
         bytes: [0, 0, 0, 0, 0],
         len: 0,
@@ -305,8 +296,8 @@ fn pour_bytes(kept: Remembered, a: PointBytes, b: PointBytes, out: &mut [u8], at
 {
     let extra = a.extra == b.extra;
     let hix = a.hix == b.hix;
-    let same = both(extra, hix);
-    let without_loy = both(a.loy == b.loy, same);
+    let same = refusals::both(extra, hix);
+    let without_loy = refusals::both(a.loy == b.loy, same);
     let upper = pour_upper(kept, a, b, without_loy, out, at);
     let most = pour_part(kept, upper, hix, b.hix, out, at);
     pour_part(kept, most, false, b.lox, out, at)
@@ -317,7 +308,7 @@ pub fn write_point(kept: Remembered, point: Point, out: &mut [u8], at: usize) ->
     ensures { λ r. ⌜ (writtenOf r ≡ writePoint kept point (length (now (out .entry))) at) × (now (out .exit) ≡ afterWrite (writtenOf r) (sent kept (spellPoint (kept .point) point)) (now (out .entry)) at) ⌝ }
 {
     let remembered = kept.point;
-    if both(memory::is_inside(remembered), memory::is_inside(point)) {
+    if refusals::both(memory::is_inside(remembered), memory::is_inside(point)) {
         let w = spell(bytes_of(remembered), bytes_of(point));
         let bytes = w.bytes;
         let len = w.len;
@@ -331,7 +322,7 @@ pub fn pour_point(kept: Remembered, point: Point, out: &mut [u8], at: usize) -> 
     ensures { λ r. ⌜ (r ≡ length (poured (inside (kept .point) && inside point) (sent kept (spellPoint (kept .point) point)))) × (now (out .exit) ≡ sets (now (out .entry)) at (poured (inside (kept .point) && inside point) (sent kept (spellPoint (kept .point) point)))) ⌝ }
 {
     let remembered = kept.point;
-    if both(memory::is_inside(remembered), memory::is_inside(point)) {
+    if refusals::both(memory::is_inside(remembered), memory::is_inside(point)) {
         let last = bytes_of(remembered);
         let this = bytes_of(point);
         return pour_bytes(kept, last, this, out, at);

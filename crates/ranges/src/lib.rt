@@ -20,13 +20,11 @@ pub fn are_within(least: u32, most: u32, list: &[i32]) -> bool
     ensures { λ r. ⌜ r ≡ every (within least most) (now (list .entry)) ⌝ }
 {
     let mut i = 0;
+    let mut good = true;
     while i < list.len() {
         let v = list[i];
-        if is_within(least, most, v) {
-            i = i + 1;
-        } else {
-            return false;
-        }
+        good = refusals::both(good, is_within(least, most, v));
+        i = i + 1;
     }
-    true
+    good
 }

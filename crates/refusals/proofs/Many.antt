@@ -8,6 +8,7 @@ use native.Mathlib.Numerals.{add-one}
 use lib.ListN.{length, getD, drop, set, length-set, drop-of-length-le}
 use lib.Seq.{sets, set-out, drop-cons}
 use Rattle.refusals.specs.Answers.{Answer, done, refused, Read, endsAfter, allAfter, every}
+use Rattle.refusals.proofs.Cases.{and-true, and-assoc}
 
 -- nothing is stored past the end
 pub past-end : {A : Type 0} (l : List A) (i : ℕ) (w : List A) → length l ≤ i → sets l i w ≡ l
@@ -81,32 +82,33 @@ module _ {A : Type 0} (one : ℕ → Answer (Read A)) where
   pub filling-full : (at count : ℕ) (l₀ l : List A) (i pos : ℕ) → Filling at count l₀ l i pos → length l ≤ i → l ≡ sets l₀ 0 (allAfter one count at)
   filling-full at count l₀ l i pos f h = sym (past-end l i (allAfter one (count - i) pos) h) ∙ f .whole
 
--- ---- testing a list, one entry a turn
+-- ---- testing a list, one entry a turn; the tests go on behind an entry that fails
 
-pub record Checking {A : Type 0} (ok : A → Bool) (list : List A) (i : ℕ) : Type 0 where
+pub record Checking {A : Type 0} (ok : A → Bool) (list : List A) (i : ℕ) (good : Bool) : Type 0 where
   pub upto : i ≤ length list
-  pub left : every ok (drop i list) ≡ every ok list
+  pub left : good && every ok (drop i list) ≡ every ok list
 
 module _ {A : Type 0} (ok : A → Bool) (list : List A) where
-  pub checking-none : Checking ok list 0
+  pub checking-none : Checking ok list 0 true
   checking-none = record { upto = omega arith; left = refl }
 
-  pub checking-end : (i : ℕ) → Checking ok list i → length list ≤ i → true ≡ every ok list
+  pub checking-end : (i : ℕ) {good : Bool} → Checking ok list i good → length list ≤ i → good ≡ every ok list
   unfolding every
-  checking-end i f h = let d : drop i list ≡ [] = drop-of-length-le list h in sym (rw d) ∙ f .left
+  checking-end i {good} f h =
+      let d : drop i list ≡ [] = drop-of-length-le list h in sym (rw d (and-true good)) ∙ f .left
 
   every-cons : (x : A) (xs : List A) → every ok (x ∷ xs) ≡ ok x && every ok xs
   unfolding every
   every-cons x xs = refl
 
-  module _ (d : A) (i : ℕ) (f : Checking ok list i) (h : i < length list) (v : A) (ev : v ≡ getD list i d) {b : Bool} (eb : b ≡ ok v) where
-    here : every ok (drop i list) ≡ b && every ok (drop (i + 1) list)
-    here = rw (drop-cons list i d h, ← ev, ← add-one i, every-cons v (drop (i + 1) list), ← eb)
+  pub checking-more : (d : A) (i : ℕ) (v : A) {good b next : Bool} → Checking ok list i good → i < length list → v ≡ getD list i d → b ≡ ok v → next ≡ good && b → Checking ok list (i + 1) next
+  checking-more d i v {good} {b} f h ev eb en =
+      let here : every ok (drop i list) ≡ b && every ok (drop (i + 1) list) =
+      rw (drop-cons list i d h, ← ev, ← add-one i, every-cons v (drop (i + 1) list), ← eb)
+      in
+      record {
+        upto = omega arith;
+        left = rw en (and-assoc good b (every ok (drop (i + 1) list))) ∙ sym (ap (λ t. good && t) here) ∙ f .left;
+      }
 
-    pub checking-more : b ≡ true → Checking ok list (i + 1)
-    checking-more t = record { upto = omega arith; left = sym (here ∙ rw t) ∙ f .left }
-
-    pub checking-no : b ≡ false → false ≡ every ok list
-    checking-no t = sym (here ∙ rw t) ∙ f .left
-
-pub ruleset checkings = (checking-none, checking-more, checking-no, checking-end)
+pub ruleset checkings = (checking-none, checking-more, checking-end)

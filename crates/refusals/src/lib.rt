@@ -1,5 +1,6 @@
 // The refusals of document 01 by name, and the number of each ("Numbers the unit gives back").
 ghost use mathlib.Core.Path.{_≡_};
+ghost use mathlib.Core.Bool.{_&&_};
 ghost use Rattle.refusals.specs.Refusals.{numberOf};
 
 pub enum Refusal {
@@ -62,4 +63,14 @@ pub fn number(refusal: Refusal) -> u8
         Refusal::TooManyMacros => 16,
         Refusal::BodyRefused => 17,
     }
+}
+
+// Both hold. A loop that joins its tests so has no way out of its middle, and several are made at once.
+pub fn both(a: bool, b: bool) -> bool
+    ensures { λ r. ⌜ r ≡ a && b ⌝ }
+{
+    if a {
+        return b;
+    }
+    false
 }

@@ -1,21 +1,21 @@
 -- What `take` gives, one byte after the other. The laws of a parameter go by this and say nothing of how a byte is sent.
-use Prim.Native.Nat.{ℕ, zero, suc, _+_, _≤_, _<_}
+use Prim.Native.Nat.{ℕ, zero, suc, _+_, _-_, _≤_, _<_}
 use mathlib.Core.Path.{_≡_, refl, sym, _∙_, ap}
-use mathlib.Core.Bool.{Bool, true, false}
+use mathlib.Core.Bool.{Bool, true, false, _&&_}
 use mathlib.Core.List.{List, [], _∷_, _++_}
 use native.Mathlib.Omega.{arith}
-use borrow.Author.Tests.{lt-ltb, le-ltb, ne-eqb, ltb-true, ltb-false}
-use lib.Dec.{ltb, eqb}
+use borrow.Author.Tests.{lt-ltb, le-ltb, le-leb, lt-leb, ne-eqb, ltb-true, ltb-false, leb-true}
+use lib.Dec.{leb, ltb, eqb}
 use lib.ListN.{length, getD, length-append, List·getD-append}
 use lib.Seq.{getD-append-add}
 use Rattle.memory.specs.declared.Remembered.{Remembered}
 use Rattle.refusals.specs.declared.Refusal.{Refusal}
 use Rattle.refusals.specs.Refusals.{numberOf}
 use Rattle.refusals.specs.Answers.{Answer, done, refused, Read, pick}
-use Rattle.refusals.proofs.Cases.{by-pick, Done, done-of, is-done, not-done}
+use Rattle.refusals.proofs.Cases.{by-pick, and-left, and-right, Done, done-of, is-done, not-done}
 use Rattle.wire.specs.declared.ByteRead.{ByteRead}
 use Rattle.wire.specs.declared.ByteRead.the-variants.{Byte, NoByte}
-use Rattle.wire.specs.Taking.{byteAt, byteOf, pairAt}
+use Rattle.wire.specs.Taking.{byteAt, byteOf, pairAt, isItself, threeAhead}
 use Rattle.wire.specs.Sending.{sent}
 
 -- w stands in s from at on
@@ -65,6 +65,74 @@ Plain (b ∷ w) = ((32 ≤ b) × (b ≤ 127)) × Plain w
 take-plain : (kept : Remembered) (s : List ℕ) (at b : ℕ) → at < length s → getD s at 0 ≡ b → 32 ≤ b → b ≤ 127 → byteAt kept s at ≡ done (record { value = b; place = at; next = at + 1 })
 unfolding byteAt
 take-plain kept s at b i e l h = simp (e, lt-ltb at (length s) i, ne-eqb b 27 (λ q. omega arith), le-ltb b 32 l, le-ltb 127 b h)
+
+-- ---- three bytes that are taken as they stand
+
+pub itself-no : (b : ℕ) → b < 32 → false ≡ isItself b
+unfolding isItself
+itself-no b h = rw (lt-leb 32 b h)
+
+pub itself-yes : (b : ℕ) → 32 ≤ b → ltb b 127 ≡ isItself b
+unfolding isItself
+itself-yes b h = rw (le-leb 32 b h)
+
+module _ (s : List ℕ) (at : ℕ) where
+  pub ahead-few : length s - at < 3 → false ≡ threeAhead s at
+  unfolding threeAhead
+  ahead-few h = rw (lt-leb (at + 3) (length s) (omega arith))
+
+  pub ahead-none : length s ≤ at → false ≡ threeAhead s at
+  ahead-none h = ahead-few (omega arith)
+
+  module _ (h : 3 ≤ length s - at) {a : Bool} (ea : a ≡ isItself (getD s at 0)) where
+    room : leb (at + 3) (length s) ≡ true
+    room = le-leb (at + 3) (length s) (omega arith)
+
+    pub first-no : a ≡ false → false ≡ threeAhead s at
+    unfolding threeAhead
+    first-no t = rw (room, ← ea, t)
+
+    module _ {b : Bool} (eb : b ≡ isItself (getD s (at + 1) 0)) (t : a ≡ true) where
+      pub second-no : b ≡ false → false ≡ threeAhead s at
+      unfolding threeAhead
+      second-no u = rw (room, ← ea, t, ← eb, u)
+
+      pub third-so : {c : Bool} → b ≡ true → c ≡ isItself (getD s (at + 2) 0) → c ≡ threeAhead s at
+      unfolding threeAhead
+      third-so u ec = rw (room, ← ea, t, ← eb, u, ec)
+
+  -- what it says
+  module _ (e : threeAhead s at ≡ true) where
+    pub room-ahead : at + 3 ≤ length s
+    unfolding threeAhead
+    room-ahead = leb-true (at + 3) (length s) (and-left (leb (at + 3) (length s)) _ e)
+
+    themselves : isItself (getD s at 0) && (isItself (getD s (at + 1) 0) && isItself (getD s (at + 2) 0)) ≡ true
+    unfolding threeAhead
+    themselves = and-right (leb (at + 3) (length s)) _ e
+
+    pub first-ahead : isItself (getD s at 0) ≡ true
+    first-ahead = and-left (isItself (getD s at 0)) _ themselves
+
+    last-two : isItself (getD s (at + 1) 0) && isItself (getD s (at + 2) 0) ≡ true
+    last-two = and-right (isItself (getD s at 0)) _ themselves
+
+    pub second-ahead : isItself (getD s (at + 1) 0) ≡ true
+    second-ahead = and-left (isItself (getD s (at + 1) 0)) _ last-two
+
+    pub third-ahead : isItself (getD s (at + 2) 0) ≡ true
+    third-ahead = and-right (isItself (getD s (at + 1) 0)) _ last-two
+
+pub itself-range : (b : ℕ) → isItself b ≡ true → (32 ≤ b) × (b < 127)
+unfolding isItself
+itself-range b e =
+    (leb-true 32 b (and-left (leb 32 b) (ltb b 127) e), ltb-true b 127 (and-right (leb 32 b) (ltb b 127) e))
+
+pub itself-taken : (kept : Remembered) (s : List ℕ) (at : ℕ) → at < length s → isItself (getD s at 0) ≡ true → byteAt kept s at ≡ done (record { value = getD s at 0; place = at; next = at + 1 })
+itself-taken kept s at h e =
+    let r = itself-range (getD s at 0) e in take-plain kept s at (getD s at 0) h refl (r .0) (omega (arith, r .1))
+
+pub ruleset aheads = (ahead-few, ahead-none, first-no, second-no, third-so)
 
 -- what is sent is taken
 pub sent-taken : (kept : Remembered) (s : List ℕ) (at : ℕ) (w : List ℕ) → Plain w → Stands s at (sent kept w) → Feeds kept s at w (at + length (sent kept w))

@@ -1,8 +1,9 @@
 -- A parameter's next byte.
 use Prim.Native.Nat.{ℕ, _+_}
+use mathlib.Core.Bool.{Bool, _&&_}
 use mathlib.Core.List.{List}
 use lib.ListN.{length, getD}
-use lib.Dec.{ltb, eqb}
+use lib.Dec.{leb, ltb, eqb}
 use Rattle.memory.specs.declared.Remembered.{Remembered}
 use Rattle.refusals.specs.Refusals.{numberOf}
 use Rattle.refusals.specs.Answers.{Answer, done, refused, Read, pick}
@@ -32,3 +33,12 @@ byteAt kept s at =
     pick (ltb at (length s))
     (pick (eqb (getD s at 0) 27) (pairAt s at) (plainAt (getD s at 0) at))
     (refused 1 (length s))
+
+-- a byte that is taken as it stands, whatever is remembered: neither ESC nor DEL
+unfoldable pub isItself : ℕ → Bool
+isItself b = leb 32 b && ltb b 127
+
+-- three such bytes stand from at on
+unfoldable pub threeAhead : List ℕ → ℕ → Bool
+threeAhead s at =
+    leb (at + 3) (length s) && (isItself (getD s at 0) && (isItself (getD s (at + 1) 0) && isItself (getD s (at + 2) 0)))

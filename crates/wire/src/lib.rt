@@ -4,7 +4,7 @@ ghost use Prim.Native.Nat.{_<_, _+_};
 ghost use mathlib.Core.List.{[], _∷_};
 ghost use lib.ListN.{length};
 ghost use lib.Seq.{sets};
-ghost use Rattle.wire.specs.Taking.{byteAt, pairAt, byteOf};
+ghost use Rattle.wire.specs.Taking.{byteAt, pairAt, byteOf, isItself, threeAhead};
 ghost use Rattle.wire.specs.Sending.{sent, isPlain, writeAt, afterWrite, writtenOf};
 use memory::Remembered;
 use refusals::Refusal;
@@ -63,6 +63,34 @@ pub fn take(kept: Remembered, s: &[u8], at: usize) -> ByteRead
     }
     let next = at + 1;
     ByteRead::Byte(b, at, next)
+}
+
+fn is_itself(b: u8) -> bool
+    ensures { λ r. ⌜ r ≡ isItself b ⌝ }
+{
+    if b < 32 {
+        return false;
+    }
+    b < 127
+}
+
+// Whether three bytes stand from `at` on that are taken as they stand: an integer has no more, and is then read without asking at each byte.
+pub fn three_ahead(s: &[u8], at: usize) -> bool
+    ensures { λ r. ⌜ r ≡ threeAhead (now (s .entry)) at ⌝ }
+{
+    let size = s.len();
+    if at >= size {
+        return false;
+    }
+    if size - at < 3 {
+        return false;
+    }
+    if is_itself(s[at]) {
+        if is_itself(s[at + 1]) {
+            return is_itself(s[at + 2]);
+        }
+    }
+    false
 }
 
 // The bytes `w` into `out` from `at` on: all of them, or 7 and none.

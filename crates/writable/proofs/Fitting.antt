@@ -11,6 +11,7 @@ use Rattle.memory.specs.declared.Point.{Point}
 use Rattle.memory.specs.declared.Remembered.{Remembered}
 use Rattle.memory.specs.Memory.{inside}
 use Rattle.refusals.specs.Answers.{every}
+use Rattle.refusals.proofs.Cases.{and-true, and-assoc}
 use Rattle.numbers.specs.Integers.{isInteger}
 use Rattle.characters.specs.Characters.{isCharacter}
 use Rattle.table.specs.declared.Kind.{Kind}
@@ -49,14 +50,6 @@ pub two-entries : (e : Entry) (v w x y : ℤ) (a b : Bool) {t : Bool} → a ≡ 
 two-entries e v w x y a b ea i eb j et = et ∙ rw (ea, eb, i, j)
 
 -- ---- values
-
-and-true : (b : Bool) → b && true ≡ b
-and-true true = refl
-and-true false = refl
-
-and-assoc : (a b c : Bool) → (a && b) && c ≡ a && (b && c)
-and-assoc true b c = refl
-and-assoc false b c = refl
 
 module _ (ps : Parameters) {t : Bool} where
   pub one-fits : (x : ℤ) {v : ℤ} → ps ≡ Single v → t ≡ isEntry AnInteger x → x ≡ v → t ≡ areValues (valuesOf ps)

@@ -13,15 +13,6 @@ use table::Kind;
 // "more than 256 entries"
 const MOST_ENTRIES: usize = 256;
 
-fn both(a: bool, b: bool) -> bool
-    ensures { λ r. ⌜ r ≡ a && b ⌝ }
-{
-    if a {
-        return b;
-    }
-    false
-}
-
 pub fn kind_number(kind: Kind) -> u8
     ensures { λ r. ⌜ r ≡ kindNumber kind ⌝ }
 {
@@ -85,21 +76,19 @@ fn are_entries(entry: Entry, list: &[i32]) -> bool
     ensures { λ r. ⌜ r ≡ areEntries entry (now (list .entry)) ⌝ }
 {
     let mut i = 0;
+    let mut good = true;
     while i < list.len() {
         let v = list[i];
-        if is_entry(entry, v) {
-            i = i + 1;
-        } else {
-            return false;
-        }
+        good = refusals::both(good, is_entry(entry, v));
+        i = i + 1;
     }
-    true
+    good
 }
 
 fn two_fit(entry: Entry, a: i32, b: i32) -> bool
     ensures { λ r. ⌜ r ≡ isEntry entry a && isEntry entry b ⌝ }
 {
-    both(is_entry(entry, a), is_entry(entry, b))
+    refusals::both(is_entry(entry, a), is_entry(entry, b))
 }
 
 fn values_fit(parameters: Parameters) -> bool
@@ -108,12 +97,12 @@ fn values_fit(parameters: Parameters) -> bool
     match parameters {
         Parameters::Single(a) => is_entry(Entry::AnInteger, a),
         Parameters::Double(a, b) => two_fit(Entry::AnInteger, a, b),
-        Parameters::Triple(a, b, d) => both(
+        Parameters::Triple(a, b, d) => refusals::both(
             two_fit(Entry::AnInteger, a, b),
             is_entry(Entry::AnInteger, d),
         ),
         Parameters::OnePoint(p) => memory::is_inside(p),
-        Parameters::Corners(p, q) => both(memory::is_inside(p), memory::is_inside(q)),
+        Parameters::Corners(p, q) => refusals::both(memory::is_inside(p), memory::is_inside(q)),
         Parameters::Scale(r) => two_fit(Entry::AnInteger, r.mantissa, r.exponent),
         Parameters::Letters(a, b) => two_fit(Entry::ACharacter, a, b),
         Parameters::Text => true,
@@ -154,8 +143,8 @@ fn tail_fits(parameters: Parameters, list: &[i32]) -> bool
 pub fn parameters_fit(kept: Remembered, parameters: Parameters, list: &[i32]) -> bool
     ensures { λ r. ⌜ r ≡ fits kept parameters (now (list .entry)) ⌝ }
 {
-    let values = both(values_fit(parameters), tail_fits(parameters, list));
-    both(memory::is_inside(kept.point), values)
+    let values = refusals::both(values_fit(parameters), tail_fits(parameters, list));
+    refusals::both(memory::is_inside(kept.point), values)
 }
 
 pub fn is_writable(kept: Remembered, command: Command, list: &[i32]) -> bool
@@ -163,5 +152,5 @@ pub fn is_writable(kept: Remembered, command: Command, list: &[i32]) -> bool
 {
     let parameters = command.parameters;
     let letters = letters_fit(command.first, command.second, parameters);
-    both(letters, parameters_fit(kept, parameters, list))
+    refusals::both(letters, parameters_fit(kept, parameters, list))
 }

@@ -8,31 +8,31 @@ use Rattle.macros.proofs.none_above.Statement.{statement}
 use Rattle.macros.proofs.none_above.Tie as tie
 
 abbrev Inv-loop : tie.InvT-loop
-Inv-loop part most i₀ i = Checking (atMost most) part i
+Inv-loop part most i₀ good₀ i good = Checking (atMost most) part i good
 
 abbrev μ-loop : tie.MeasureT-loop
-μ-loop part most i₀ i = length part - i
+μ-loop part most i₀ good₀ i good = length part - i
 
 loop-holds : tie.Need-loop-holds Inv-loop μ-loop
 loop-holds c = search (needs, bounds)
 
-shared-slice-read-if1 : tie.Need-shared-slice-read-if1 Inv-loop μ-loop
-shared-slice-read-if1 c = search (needs, bounds)
+shared-slice-read-both : tie.Need-shared-slice-read-both Inv-loop μ-loop
+shared-slice-read-both c = search needs
+
+both-requires : tie.Need-both-requires Inv-loop μ-loop
+both-requires c κs = search needs
 
 add-i : tie.Need-add-i Inv-loop μ-loop
-add-i c = search (needs, bounds)
+add-i c = search needs
 
 loop-less : tie.Need-loop-less Inv-loop μ-loop
-loop-less c = search (needs, bounds)
+loop-less c = search needs
 
 loop-again : tie.Need-loop-again Inv-loop μ-loop
 loop-again c = search (needs, bounds)
 
 returns : tie.Need-returns Inv-loop μ-loop
 returns c = search (needs, bounds)
-
-returns-2 : tie.Need-returns-2 Inv-loop μ-loop
-returns-2 c = search (needs, bounds)
 
 pub none-above-spec : {M : Type 1} → statement M
 none-above-spec =
@@ -41,9 +41,9 @@ none-above-spec =
     Inv-loop
     μ-loop
     loop-holds
-    shared-slice-read-if1
+    shared-slice-read-both
+    both-requires
     add-i
     loop-less
     loop-again
-    returns
-    returns-2)
+    returns)

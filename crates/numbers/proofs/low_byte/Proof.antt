@@ -1,4 +1,4 @@
-use Rattle.numbers.proofs.Reading.{low-minus, low-plus, low-under, low-over}
+use Rattle.numbers.proofs.Reading.{low-in, low-out}
 use borrow.Author.Needs.{needs}
 use Rattle.numbers.proofs.low_byte.Statement.{statement}
 use Rattle.numbers.proofs.low_byte.Tie as tie
@@ -12,23 +12,20 @@ cast-mag c = search needs
 add-mag : tie.Need-add-mag
 add-mag c = search needs
 
+cast-if1 : tie.Need-cast-if1
+cast-if1 c = search needs
+
+limit-of-requires : tie.Need-limit-of-requires
+limit-of-requires c κs = search needs
+
+returns : tie.Need-returns
+returns c = search (needs, low-out)
+
 signed-requires : tie.Need-signed-requires
 signed-requires c κs = search needs
 
-returns : tie.Need-returns
-returns c = search (needs, low-minus)
-
 returns-2 : tie.Need-returns-2
-returns-2 c = search (needs, low-under)
-
-signed-requires-2 : tie.Need-signed-requires-2
-signed-requires-2 c κs = search needs
-
-returns-3 : tie.Need-returns-3
-returns-3 c = search (needs, low-plus)
-
-returns-4 : tie.Need-returns-4
-returns-4 c = search (needs, low-over)
+returns-2 c = search (needs, low-in)
 
 pub low-byte-spec : {M : Type 1} → statement M
 low-byte-spec =
@@ -37,9 +34,8 @@ low-byte-spec =
     mul-mag
     cast-mag
     add-mag
-    signed-requires
+    cast-if1
+    limit-of-requires
     returns
-    returns-2
-    signed-requires-2
-    returns-3
-    returns-4)
+    signed-requires
+    returns-2)

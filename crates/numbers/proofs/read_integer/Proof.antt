@@ -1,45 +1,24 @@
-use Rattle.numbers.proofs.Reading.{low-step, first-step, no-step}
+use Rattle.numbers.proofs.Ahead.{ahead-told}
 use borrow.Author.Needs.{needs}
 use Rattle.numbers.proofs.read_integer.Statement.{statement}
 use Rattle.numbers.proofs.read_integer.Tie as tie
 
-take-requires : tie.Need-take-requires
-take-requires c κs = search needs
+three-ahead-requires : tie.Need-three-ahead-requires
+three-ahead-requires c κs = search needs
 
-enum-known-b : tie.Need-enum-known-b
-enum-known-b c = search needs
-
-low-byte-requires : tie.Need-low-byte-requires
-low-byte-requires c κs = search needs
+among-three-requires : tie.Need-among-three-requires
+among-three-requires c κs = search (needs, ahead-told)
 
 returns : tie.Need-returns
-returns c = search (needs, low-step)
+returns c = search needs
 
-cast-high : tie.Need-cast-high
-cast-high c = search needs
-
-after-one-requires : tie.Need-after-one-requires
-after-one-requires c κs = search needs
-
-enum-known-e : tie.Need-enum-known-e
-enum-known-e c = search needs
+by-bytes-requires : tie.Need-by-bytes-requires
+by-bytes-requires c κs = search needs
 
 returns-2 : tie.Need-returns-2
-returns-2 c = search (needs, first-step)
-
-returns-3 : tie.Need-returns-3
-returns-3 c = search (needs, no-step)
+returns-2 c = search needs
 
 pub read-integer-spec : {M : Type 1} → statement M
 read-integer-spec =
     tie.close
-    (tie.spec
-    take-requires
-    enum-known-b
-    low-byte-requires
-    returns
-    cast-high
-    after-one-requires
-    enum-known-e
-    returns-2
-    returns-3)
+    (tie.spec three-ahead-requires among-three-requires returns by-bytes-requires returns-2)
