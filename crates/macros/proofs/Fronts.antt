@@ -36,12 +36,14 @@ pub ruleset bounds = (checking-none, byte-more, checking-end)
 -- ---- a header
 
 pub header-so : (s : List ℕ) (at : ℕ) {a b c : ℕ} → a ≡ getD s at 0 → a ≤ 255 → b ≡ getD s (at + 1) 0 → b ≤ 255 → c ≡ getD s (at + 2) 0 → c ≤ 255
-    → HeaderIs threeBytes (drop at s) (record { number = (a * 65536 + b * 256 + c) / 512; long = (a * 65536 + b * 256 + c) % 512 })
+    → HeaderIs threeBytes (drop at s) (record { number = a * 128 + b / 2; long = b % 2 * 256 + c })
 unfolding threeBytes
 header-so s at {a} {b} {c} ea ha eb hb ec hc =
     let e : a * 65536 + b * 256 + c ≡ threeIn (drop at s)
     = rw (getD-drop at s 0 0, add-zero at, getD-drop at s 1 0, getD-drop at s 2 0, ea, eb, ec) in
-    record { number = ap (λ (v : ℕ). v / 512) e; long = ap (λ (v : ℕ). v % 512) e; spare = refl; small = omega arith }
+    let n : a * 128 + b / 2 ≡ (a * 65536 + b * 256 + c) / 512 = omega arith in
+    let l : b % 2 * 256 + c ≡ (a * 65536 + b * 256 + c) % 512 = omega arith in
+    record { number = n ∙ ap (λ (v : ℕ). v / 512) e; long = l ∙ ap (λ (v : ℕ). v % 512) e; spare = refl; small = omega arith }
 
 -- ---- a header with room for its body, test by test
 

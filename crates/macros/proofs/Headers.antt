@@ -111,13 +111,14 @@ module _ (L : Layout) (s : List ℕ) (number at : ℕ) (inv : Hopping L s number
         ∙ sym (fuel ∙ head-this L number (length s - 1) (drop at s) (headed .is) (sym (headed .here) ∙ e))
         ∙ inv .left
 
-    pub hopped-past : number < n → [] ≡ bodyByHeaders L (length s) number s
-    hopped-past h = sym (head-high L number (length s) (drop at s) (omega (arith, h, headed .here))) ∙ inv .left
+    pub hopped-past : number ≤ n → (n ≡ number → ⊥) → [] ≡ bodyByHeaders L (length s) number s
+    hopped-past h d =
+        let high : number < n = lt-of-le-ne h (λ e. d (sym e)) in
+        sym (head-high L number (length s) (drop at s) (omega (arith, high, headed .here))) ∙ inv .left
 
-    pub hopped-on : (n ≡ number → ⊥) → n ≤ number → Hopping L s number to
-    hopped-on d h =
+    pub hopped-on : n < number → Hopping L s number to
+    hopped-on low =
         let y = headed in
-        let low : n < number = lt-of-le-ne h d in
         let p : at + (L .size + L .lengthIn (drop at s)) ≡ to = omega (arith, y .begins, y .ends) in
         let l = length-drop to s in
         let next : behind L (drop at s) ≡ drop to s = drop-drop (L .size + L .lengthIn (drop at s)) at s ∙ ap (λ (i : ℕ). drop i s) p in

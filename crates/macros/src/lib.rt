@@ -94,9 +94,9 @@ fn header_at(store: &[u8], at: usize) -> Header
     requires { ⌜ at + 3 ≤ length (now store) ⌝ }
     ensures { λ r. ⌜ HeaderIs threeBytes (drop at (now (store .entry))) r ⌝ }
 {
-    let packed = byte_at(store, at) * 65536 + byte_at(store, at + 1) * 256 + byte_at(store, at + 2);
-    let number = packed / 512;
-    let long = packed % 512;
+    let middle = byte_at(store, at + 1);
+    let number = byte_at(store, at) * 128 + middle / 2;
+    let long = middle % 2 * 256 + byte_at(store, at + 2);
     Header {
         number: number,
         long: long,
@@ -285,10 +285,10 @@ fn body_by_headers(store: &[u8], number: usize) -> &[u8]
     loop {
         match headed_at(store, at) {
             Front::Here(n, from, to) => {
-                if n == number {
-                    return &store[from..to];
-                }
-                if n > number {
+                if n >= number {
+                    if n == number {
+                        return &store[from..to];
+                    }
                     return &store[..0];
                 }
                 at = to;
