@@ -34,25 +34,6 @@ enum Step {
     Stopped(Refusal),
 }
 
-// The bytes of a part into `out` from `at` on, as far as it has room.
-fn copy(part: &[u8], out: &mut [u8], at: usize)
-    ensures { λ _. ⌜ now (out .exit) ≡ sets (now (out .entry)) at (now (part .entry)) ⌝ }
-{
-    let room = out.len();
-    if at >= room {
-        return;
-    }
-    let mut i = 0;
-    while i < part.len() {
-        if room - at <= i {
-            return;
-        }
-        let to = at + i;
-        out[to] = part[i];
-        i = i + 1;
-    }
-}
-
 // The body of a macro, piece by piece; in it `depth` more macros may be entered one inside the other.
 fn walk<'a>(
     volatile: &'a [u8],
@@ -74,7 +55,7 @@ fn walk<'a>(
             Piece::End => return Step::On(going),
             Piece::Broken => return Step::Stopped(Refusal::BodyRefused),
             Piece::Copied(next, after) => {
-                copy(&body[i..next], out, at);
+                wire::copy(&body[i..next], out, at);
                 let behind = at + (next - i);
                 going.at = behind;
                 going.kept = after;

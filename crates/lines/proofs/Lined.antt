@@ -16,7 +16,7 @@ use Rattle.refusals.specs.Refusals.{numberOf}
 use Rattle.refusals.proofs.Many.{past-end}
 use Rattle.memory.specs.declared.Remembered.{Remembered}
 use Rattle.wire.specs.declared.Written.the-variants.{Next, NotWritten}
-use Rattle.wire.specs.Sending.{writtenOf, writeAt, afterWrite}
+use Rattle.wire.specs.Sending.{writtenOf, roomFor, writeAt, afterWrite}
 use Rattle.parameters.specs.declared.Parameters.{Parameters}
 use Rattle.parameters.specs.Shapes.{valuesOf, tailOf}
 use Rattle.commands.specs.declared.Command.{Command}
@@ -136,7 +136,7 @@ module _ (w l : List ℕ) {q : List ℕ} {m : ℕ} (dry : Poured [] 0 w m q) whe
   line-kept e = kept
 
   pub line-short : length (q ++ l) < m → writtenOf (NotWritten TooShort) ≡ writeAt w (length l) 0
-  unfolding writtenOf writeAt
+  unfolding writtenOf writeAt roomFor
   line-short h =
       let z = size in
       let i : length l < m = rw kept at h in
@@ -148,7 +148,7 @@ module _ (w l : List ℕ) {q : List ℕ} {m : ℕ} (dry : Poured [] 0 w m q) whe
     line-stands = rw kept at (wet .stands)
 
     pub line-fits : m ≤ length (q ++ l) → writtenOf (Next n) ≡ writeAt w (length l) 0
-    unfolding writtenOf writeAt behind
+    unfolding writtenOf writeAt roomFor behind
     line-fits h =
         let i : m ≤ length l = rw kept at h in
         let j : length l < far = rw kept at (wet .room) in

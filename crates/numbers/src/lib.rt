@@ -7,14 +7,13 @@ ghost use lib.Seq.{sets};
 ghost use lib.Dec.{leb};
 ghost use lib.IntN.{natAbs, pos};
 ghost use Rattle.wire.specs.Taking.{threeAhead};
-ghost use Rattle.wire.specs.Sending.{sent, afterWrite, writtenOf, Spells, poured};
+ghost use Rattle.wire.specs.Sending.{sent, afterWrite, writtenOf, poured};
 ghost use Rattle.numbers.specs.Integers.{signedOf, isNegative, limit, lowByte, integerFrom, integerAt, integerOf, lowOf, spellOf, spell, isInteger, writeInteger};
 ghost use Rattle.numbers.specs.Three.{highsBefore, highValue};
 ghost use Rattle.numbers.specs.Counts.{countIn, countAt, countOf, mostEntries, writeCount};
 use memory::Remembered;
 use refusals::Refusal;
 use wire::ByteRead;
-use wire::Spelling;
 use wire::Written;
 
 // "A count is an integer 0..256."
@@ -225,62 +224,6 @@ pub fn low_of(mag: u32, negative: bool) -> u8
     48 + (mag % 16) as u8
 }
 
-// The bytes of an integer, no high byte of value 0 in front.
-fn spell_integer(mag: u32, negative: bool) -> Spelling
-    requires { ⌜ mag ≤ 32768 ⌝ }
-    ensures { λ r. ⌜ Spells (spellOf mag negative) r ⌝ }
-{
-    let low = low_of(mag, negative);
-    let high = mag / 16;
-    if high == 0 {
-        return Spelling {
-            bytes: [low, 0, 0, 0, 0],
-            len: 1,
-        };
-    }
-    let last = 64 + (high % 64) as u8;
-    if high < 64 {
-        return Spelling {
-            bytes: [last, low, 0, 0, 0],
-            len: 2,
-        };
-    }
-    let first = 64 + (high / 64) as u8;
-    Spelling {
-        bytes: [first, last, low, 0, 0],
-        len: 3,
-    }
-}
-
-// 8 for a value outside -32768..32767, then 7.
-pub fn write_integer(kept: Remembered, v: i32, out: &mut [u8], at: usize) -> Written
-    ensures { λ r. ⌜ (writtenOf r ≡ writeInteger kept v (length (now (out .entry))) at) × (now (out .exit) ≡ afterWrite (writtenOf r) (sent kept (spell v)) (now (out .entry)) at) ⌝ }
-{
-    let negative = is_negative(v);
-    let mag = magnitude(v);
-    if mag > limit_of(negative) {
-        return Written::NotWritten(Refusal::NotValid);
-    }
-    let w = spell_integer(mag, negative);
-    let bytes = w.bytes;
-    let len = w.len;
-    wire::send(kept, &bytes[..len], out, at)
-}
-
-// 8 for a count above 256, then 7.
-pub fn write_count(kept: Remembered, n: usize, out: &mut [u8], at: usize) -> Written
-    ensures { λ r. ⌜ (writtenOf r ≡ writeCount kept n (length (now (out .entry))) at) × (now (out .exit) ≡ afterWrite (writtenOf r) (sent kept (spell (pos n))) (now (out .entry)) at) ⌝ }
-{
-    if n > MOST_ENTRIES {
-        return Written::NotWritten(Refusal::NotValid);
-    }
-    let mag = n as u32;
-    let w = spell_integer(mag, false);
-    let bytes = w.bytes;
-    let len = w.len;
-    wire::send(kept, &bytes[..len], out, at)
-}
-
 // "Range -32768..32767"
 pub fn is_integer(v: i32) -> bool
     ensures { λ r. ⌜ r ≡ isInteger v ⌝ }
@@ -327,4 +270,40 @@ pub fn pour_count(kept: Remembered, n: usize, out: &mut [u8], at: usize) -> usiz
     }
     let mag = n as u32;
     pour_magnitude(kept, mag, false, out, at)
+}
+
+// 8 for a value outside -32768..32767, then 7.
+pub fn write_integer(kept: Remembered, v: i32, out: &mut [u8], at: usize) -> Written
+    ensures { λ r. ⌜ (writtenOf r ≡ writeInteger kept v (length (now (out .entry))) at) × (now (out .exit) ≡ afterWrite (writtenOf r) (sent kept (spell v)) (now (out .entry)) at) ⌝ }
+{
+    if !is_integer(v) {
+        return Written::NotWritten(Refusal::NotValid);
+    }
+    let mut none = [0u8; 0];
+    let size = pour_integer(kept, v, &mut none, 0);
+    match wire::room_for(size, out.len(), at) {
+        Written::Next(next) => {
+            pour_integer(kept, v, out, at);
+            Written::Next(next)
+        }
+        Written::NotWritten(e) => Written::NotWritten(e),
+    }
+}
+
+// 8 for a count above 256, then 7.
+pub fn write_count(kept: Remembered, n: usize, out: &mut [u8], at: usize) -> Written
+    ensures { λ r. ⌜ (writtenOf r ≡ writeCount kept n (length (now (out .entry))) at) × (now (out .exit) ≡ afterWrite (writtenOf r) (sent kept (spell (pos n))) (now (out .entry)) at) ⌝ }
+{
+    if n > MOST_ENTRIES {
+        return Written::NotWritten(Refusal::NotValid);
+    }
+    let mut none = [0u8; 0];
+    let size = pour_count(kept, n, &mut none, 0);
+    match wire::room_for(size, out.len(), at) {
+        Written::Next(next) => {
+            pour_count(kept, n, out, at);
+            Written::Next(next)
+        }
+        Written::NotWritten(e) => Written::NotWritten(e),
+    }
 }

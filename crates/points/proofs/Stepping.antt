@@ -68,11 +68,11 @@ insides p e = record {
 pub tested : (p : Point) {t : Bool} → t ≡ inside p → t ≡ true → Inside p
 tested p e t = insides p (sym e ∙ t)
 
-pub tested-first : (p : Point) (a b : Bool) {t : Bool} → a ≡ inside p → t ≡ a && b → t ≡ true → Inside p
-tested-first p a b e f t = insides p (sym e ∙ and-left a b (sym f ∙ t))
+pub tested-first : (p q : Point) {t : Bool} → t ≡ inside p && inside q → t ≡ true → Inside p
+tested-first p q e t = insides p (and-left (inside p) (inside q) (sym e ∙ t))
 
-pub tested-second : (p : Point) (a b : Bool) {t : Bool} → b ≡ inside p → t ≡ a && b → t ≡ true → Inside p
-tested-second p a b e f t = insides p (sym e ∙ and-right a b (sym f ∙ t))
+pub tested-second : (p q : Point) {t : Bool} → t ≡ inside p && inside q → t ≡ true → Inside q
+tested-second p q e t = insides q (and-right (inside p) (inside q) (sym e ∙ t))
 
 module _ (kept : Remembered) (s : List ℕ) (at : ℕ) {t : Bool} (e : t ≡ inside (kept .point)) where
   pub from-last : {b : PointBytes} {q : Answer (Read Point)} → t ≡ true → b ≡ bytesOf (kept .point) → q ≡ pointFrom kept b s at → q ≡ pointAt kept s at

@@ -1,12 +1,11 @@
 // The packed point: read from a remembered point with all that may be left out, and written with all of that left out.
 ghost use mathlib.Core.Path.{_≡_};
 ghost use mathlib.Core.Bool.{_&&_};
-ghost use mathlib.Core.List.{_++_};
 ghost use Prim.Native.Nat.{_<_, _≤_, _+_, _*_, _/_, _%_};
-ghost use lib.ListN.{length, take};
+ghost use lib.ListN.{length};
 ghost use lib.Seq.{sets};
 ghost use Rattle.memory.specs.Memory.{inside};
-ghost use Rattle.wire.specs.Sending.{sent, afterWrite, writtenOf, Spells, poured};
+ghost use Rattle.wire.specs.Sending.{sent, afterWrite, writtenOf, poured};
 ghost use Rattle.points.specs.Layout.{Inside, bytesOf, coordinates};
 ghost use Rattle.points.specs.Reading.{pointOf, endsAt, lastAt, afterLoY, afterUpper, afterHiY, pointFrom, pointAt};
 ghost use Rattle.points.specs.Writing.{part, upperBytes, spellBytes, spellPoint, writePoint};
@@ -14,7 +13,6 @@ use memory::Point;
 use memory::Remembered;
 use refusals::Refusal;
 use wire::ByteRead;
-use wire::Spelling;
 use wire::Written;
 
 pub enum PointRead {
@@ -224,40 +222,6 @@ pub fn read_point(kept: Remembered, s: &[u8], at: usize) -> PointRead
 
 // ---- writing
 
-// The spelling with one byte more, or as it is where that byte is left out.
-fn with_byte(w: Spelling, omit: bool, b: u8) -> Spelling
-    requires { ⌜ w .len < 5 ⌝ }
-    ensures { λ r. ⌜ (Spells (take (w .len) (w .bytes) ++ part omit b) r) × (r .len ≤ w .len + 1) ⌝ }
-{
-    if omit {
-        return w;
-    }
-    let at = w.len;
-    let mut more = w;
-    more.bytes[at] = b;
-    more.len = at + 1;
-    more
-}
-
-// What is sent of a point's bytes `b`, where those of the last point were `a`.
-fn spell(a: PointBytes, b: PointBytes) -> Spelling
-    ensures { λ r. ⌜ Spells (spellBytes a b) r ⌝ }
-{
-    let hiy = a.hiy == b.hiy;
-    let extra = a.extra == b.extra;
-    let hix = a.hix == b.hix;
-    let loy = refusals::both(a.loy == b.loy, refusals::both(extra, hix));
-    let none = Spelling {
-        bytes: [0, 0, 0, 0, 0],
-        len: 0,
-    };
-    let one = with_byte(none, hiy, b.hiy);
-    let two = with_byte(one, extra, b.extra);
-    let three = with_byte(two, loy, b.loy);
-    let four = with_byte(three, hix, b.hix);
-    with_byte(four, false, b.lox)
-}
-
 // One byte of a point behind `n` others, or nothing where it is left out. Answers how many they then are.
 fn pour_part(kept: Remembered, n: usize, omit: bool, b: u8, out: &mut [u8], at: usize) -> usize
     requires { ⌜ n ≤ 8 ⌝ }
@@ -290,7 +254,7 @@ fn pour_upper(
     pour_part(kept, two, loy, b.loy, out, at)
 }
 
-// What is sent of a point's bytes `b`, where those of the last point were `a`: as `spell` has it.
+// What is sent of a point's bytes `b`, where those of the last point were `a`.
 fn pour_bytes(kept: Remembered, a: PointBytes, b: PointBytes, out: &mut [u8], at: usize) -> usize
     ensures { λ r. ⌜ (r ≡ length (sent kept (spellBytes a b))) × (now (out .exit) ≡ sets (now (out .entry)) at (sent kept (spellBytes a b))) ⌝ }
 {
@@ -303,18 +267,10 @@ fn pour_bytes(kept: Remembered, a: PointBytes, b: PointBytes, out: &mut [u8], at
     pour_part(kept, most, false, b.lox, out, at)
 }
 
-// 8 for a point or a remembered point outside 0..4095, then 7.
-pub fn write_point(kept: Remembered, point: Point, out: &mut [u8], at: usize) -> Written
-    ensures { λ r. ⌜ (writtenOf r ≡ writePoint kept point (length (now (out .entry))) at) × (now (out .exit) ≡ afterWrite (writtenOf r) (sent kept (spellPoint (kept .point) point)) (now (out .entry)) at) ⌝ }
+fn are_inside(p: Point, q: Point) -> bool
+    ensures { λ r. ⌜ r ≡ inside p && inside q ⌝ }
 {
-    let remembered = kept.point;
-    if refusals::both(memory::is_inside(remembered), memory::is_inside(point)) {
-        let w = spell(bytes_of(remembered), bytes_of(point));
-        let bytes = w.bytes;
-        let len = w.len;
-        return wire::send(kept, &bytes[..len], out, at);
-    }
-    Written::NotWritten(Refusal::NotValid)
+    refusals::both(memory::is_inside(p), memory::is_inside(q))
 }
 
 // The bytes of a point as far as there is room, and how many they are; of a point outside 0..4095, or from one, none.
@@ -322,10 +278,29 @@ pub fn pour_point(kept: Remembered, point: Point, out: &mut [u8], at: usize) -> 
     ensures { λ r. ⌜ (r ≡ length (poured (inside (kept .point) && inside point) (sent kept (spellPoint (kept .point) point)))) × (now (out .exit) ≡ sets (now (out .entry)) at (poured (inside (kept .point) && inside point) (sent kept (spellPoint (kept .point) point)))) ⌝ }
 {
     let remembered = kept.point;
-    if refusals::both(memory::is_inside(remembered), memory::is_inside(point)) {
+    if are_inside(remembered, point) {
         let last = bytes_of(remembered);
         let this = bytes_of(point);
         return pour_bytes(kept, last, this, out, at);
     }
     0
+}
+
+// 8 for a point or a remembered point outside 0..4095, then 7.
+pub fn write_point(kept: Remembered, point: Point, out: &mut [u8], at: usize) -> Written
+    ensures { λ r. ⌜ (writtenOf r ≡ writePoint kept point (length (now (out .entry))) at) × (now (out .exit) ≡ afterWrite (writtenOf r) (sent kept (spellPoint (kept .point) point)) (now (out .entry)) at) ⌝ }
+{
+    let remembered = kept.point;
+    if !are_inside(remembered, point) {
+        return Written::NotWritten(Refusal::NotValid);
+    }
+    let mut none = [0u8; 0];
+    let size = pour_point(kept, point, &mut none, 0);
+    match wire::room_for(size, out.len(), at) {
+        Written::Next(next) => {
+            pour_point(kept, point, out, at);
+            Written::Next(next)
+        }
+        Written::NotWritten(e) => Written::NotWritten(e),
+    }
 }

@@ -17,7 +17,7 @@ use Rattle.refusals.specs.declared.Refusal.the-variants.{TooShort}
 use Rattle.refusals.specs.Answers.{Answer, done}
 use Rattle.wire.specs.declared.Written.{Written}
 use Rattle.wire.specs.declared.Written.the-variants.{Next, NotWritten}
-use Rattle.wire.specs.Sending.{writtenOf, writeAt, writeIf, afterWrite}
+use Rattle.wire.specs.Sending.{writtenOf, roomFor, writeAt, writeIf, afterWrite}
 use Rattle.numbers.specs.Integers.{isNegative}
 use Rattle.characters.specs.Characters.{areCharacters, bytesOf}
 use Rattle.reports.specs.Writing.{spellReportOf, spellReport, isReport, spellString, isString}
@@ -60,15 +60,15 @@ module _ (vs : List ℤ) where
 
   module _ (l : List ℕ) (at : ℕ) {ok : Bool} (e : ok ≡ true) where
     pub string-past : length l < at → writtenOf (NotWritten TooShort) ≡ writeIf ok (spellString vs) (length l) at
-    unfolding writtenOf writeIf writeAt
+    unfolding writtenOf writeIf writeAt roomFor
     string-past h = let n = long in rw (e, lt-leb (at + length (spellString vs)) (length l) (omega arith))
 
     pub string-short : at ≤ length l → length l - at < length vs + 3 → writtenOf (NotWritten TooShort) ≡ writeIf ok (spellString vs) (length l) at
-    unfolding writtenOf writeIf writeAt
+    unfolding writtenOf writeIf writeAt roomFor
     string-short p h = let n = long in rw (e, lt-leb (at + length (spellString vs)) (length l) (omega arith))
 
     pub string-done : at ≤ length l → length vs + 3 ≤ length l - at → writtenOf (Next (at + (length vs + 3))) ≡ writeIf ok (spellString vs) (length l) at
-    unfolding writtenOf writeIf writeAt
+    unfolding writtenOf writeIf writeAt roomFor
     string-done p h =
         let n = long in
         let q : at + length (spellString vs) ≡ at + (length vs + 3) = omega arith in
@@ -77,7 +77,7 @@ module _ (vs : List ℤ) where
 -- the length was laid, and then the characters
 module _ (vs : List ℤ) (l : List ℕ) (at : ℕ) (r : Written) {w o : List ℕ} (ew : w ≡ spellReportOf (length vs) false) (e : writtenOf r ≡ writeAt w (length l) at) (j : o ≡ afterWrite (writtenOf r) w l at) (p : at ≤ length l) (h : length vs + 3 ≤ length l - at) where
   laid : o ≡ sets l at (spellReportOf (length vs) false)
-  unfolding writeAt afterWrite
+  unfolding writeAt roomFor afterWrite
   laid = rw (e, ew, le-leb (at + 3) (length l) (omega arith)) at j
 
   pub string-stands : (n : ℕ) {q : List ℕ} → q ≡ sets o (at + 3) (bytesOf vs) → q ≡ afterWrite (writtenOf (Next n)) (spellString vs) l at

@@ -16,8 +16,9 @@ use Rattle.refusals.specs.Answers.{Answer}
 use Rattle.refusals.proofs.Many.{past-end, sets-append}
 use Rattle.refusals.specs.declared.Refusal.{Refusal}
 use Rattle.refusals.specs.declared.Refusal.the-variants.{TooShort, NotValid}
+use Rattle.wire.specs.declared.Written.{Written}
 use Rattle.wire.specs.declared.Written.the-variants.{Next, NotWritten}
-use Rattle.wire.specs.Sending.{sent, isPlain, writtenOf, writeAt, writeIf, afterWrite, poured}
+use Rattle.wire.specs.Sending.{sent, isPlain, writtenOf, roomFor, writeAt, writeIf, afterWrite, poured}
 
 -- what is left, laid from here, ends where the whole ends
 pub record Laying (w out₀ out : List ℕ) (at i : ℕ) : Type 0 where
@@ -44,19 +45,25 @@ laying-more w out₀ out at i f h =
 pub laying-end : (w out₀ out : List ℕ) (at i : ℕ) → Laying w out₀ out at i → length w ≤ i → out ≡ sets out₀ at w
 laying-end w out₀ out at i f h = let d : drop i w ≡ [] = drop-of-length-le w h in rw d at (f .whole)
 
--- the answers, with the tests as the code leaves them
+-- whether there is room, with the tests as the code leaves them
+module _ (size room at : ℕ) where
+  pub at-past : room < at → writtenOf (NotWritten TooShort) ≡ roomFor size room at
+  unfolding writtenOf roomFor
+  at-past h = rw (lt-leb (at + size) room (omega arith))
+
+  pub no-room : at ≤ room → room - at < size → writtenOf (NotWritten TooShort) ≡ roomFor size room at
+  unfolding writtenOf roomFor
+  no-room p h = rw (lt-leb (at + size) room (omega arith))
+
+  pub has-room : at ≤ room → size ≤ room - at → writtenOf (Next (at + size)) ≡ roomFor size room at
+  unfolding writtenOf roomFor
+  has-room p h = rw (le-leb (at + size) room (omega arith))
+
+-- the answers, by what `room_for` gave
 module _ (w l : List ℕ) (at : ℕ) where
-  pub at-past : length l < at → writtenOf (NotWritten TooShort) ≡ writeAt w (length l) at
-  unfolding writtenOf writeAt
-  at-past h = rw (lt-leb (at + length w) (length l) (omega arith))
-
-  pub no-room : at ≤ length l → length l - at < length w → writtenOf (NotWritten TooShort) ≡ writeAt w (length l) at
-  unfolding writtenOf writeAt
-  no-room p h = rw (lt-leb (at + length w) (length l) (omega arith))
-
-  pub all-laid : at ≤ length l → length w ≤ length l - at → writtenOf (Next (at + length w)) ≡ writeAt w (length l) at
-  unfolding writtenOf writeAt
-  all-laid p h = rw (le-leb (at + length w) (length l) (omega arith))
+  pub written-so : (size : ℕ) {r q : Written} → size ≡ length w → writtenOf r ≡ roomFor size (length l) at → r ≡ q → writtenOf q ≡ writeAt w (length l) at
+  unfolding writeAt
+  written-so size e j g = rw g at j ∙ rw e
 
   pub none-changed : (e : Refusal) → l ≡ afterWrite (writtenOf (NotWritten e)) w l at
   unfolding writtenOf afterWrite
@@ -81,8 +88,6 @@ standing w l at q f j = rw (← f) j
 
 pub sent-same : (kept : Remembered) (w : List ℕ) {v : List ℕ} → v ≡ w → sent kept v ≡ sent kept w
 sent-same kept w e = ap (sent kept) e
-
-pub ruleset writings = (outside, accepted, standing, none-changed, sent-same)
 
 -- ---- as far as there is room
 
@@ -188,4 +193,17 @@ none-stand w l at e = ap (λ (x : List ℕ). sets l at x) (not-poured w e)
 
 pub ruleset pours = (pours-size, pours-stand, none-size, none-stand, sent-same)
 
-pub ruleset layings = (laying-none, laying-more, laying-end, at-past, no-room, all-laid, none-changed, all-changed)
+-- ---- written by pouring, once it is known that there is room
+
+module _ (w l : List ℕ) (at : ℕ) {ok : Bool} (t : ok ≡ true) where
+  pub poured-so : (size : ℕ) {r q : Written} → size ≡ length (poured ok w) → writtenOf r ≡ roomFor size (length l) at → r ≡ q → writtenOf q ≡ writeIf ok w (length l) at
+  unfolding poured writeIf
+  poured-so size e j g = rw t (written-so w l at size (rw t at e) j g)
+
+  pub poured-stands : (n : ℕ) {o : List ℕ} → o ≡ sets l at (poured ok w) → o ≡ afterWrite (writtenOf (Next n)) w l at
+  unfolding poured
+  poured-stands n j = all-changed w l at n (rw t at j)
+
+pub ruleset rooms = (at-past, no-room, has-room)
+
+pub ruleset layings = (laying-none, laying-more, laying-end)

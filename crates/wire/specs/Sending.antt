@@ -1,9 +1,8 @@
 -- Bytes that are written.
-use Prim.Native.Nat.{ℕ, _+_, _≤_}
-use mathlib.Core.Path.{_≡_}
+use Prim.Native.Nat.{ℕ, _+_}
 use mathlib.Core.Bool.{Bool, true}
 use mathlib.Core.List.{List, []}
-use lib.ListN.{length, take}
+use lib.ListN.{length}
 use lib.Seq.{sets}
 use lib.Dec.{leb}
 use Rattle.memory.specs.declared.Remembered.{Remembered}
@@ -11,17 +10,11 @@ use Rattle.refusals.specs.Refusals.{numberOf}
 use Rattle.refusals.specs.Answers.{Answer, done, refused, pick}
 use Rattle.wire.specs.declared.Written.{Written}
 use Rattle.wire.specs.declared.Written.the-variants.{Next, NotWritten}
-use Rattle.wire.specs.declared.Spelling.{Spelling}
 
 -- what the answer says; "counts with a refusal are 0"
 unfoldable pub writtenOf : Written → Answer ℕ
 writtenOf (Next n) = done n
 writtenOf (NotWritten e) = refused (numberOf e) 0
-
--- the spelling r holds just the bytes w
-pub record Spells (w : List ℕ) (r : Spelling) : Type 0 where
-  pub same : take (r .len) (r .bytes) ≡ w
-  pub within : r .len ≤ length (r .bytes)
 
 -- a parameter's bytes as they are sent: each as itself, "the writer writes 127"
 unfoldable pub sent : Remembered → List ℕ → List ℕ
@@ -31,9 +24,13 @@ sent kept w = w
 unfoldable pub isPlain : Remembered → Bool
 isPlain kept = true
 
+-- where so many bytes from at on end in so much room, or 7
+unfoldable pub roomFor : ℕ → ℕ → ℕ → Answer ℕ
+roomFor size room at = pick (leb (at + size) room) (done (at + size)) (refused 7 0)
+
 -- w from at on in so much room: all of it, or 7
 unfoldable pub writeAt : List ℕ → ℕ → ℕ → Answer ℕ
-writeAt w room at = pick (leb (at + length w) room) (done (at + length w)) (refused 7 0)
+writeAt w room at = roomFor (length w) room at
 
 -- "8 for .. a value .. outside its range .. then 7"
 unfoldable pub writeIf : (inside : Bool) → List ℕ → ℕ → ℕ → Answer ℕ

@@ -5,7 +5,7 @@ ghost use mathlib.Core.List.{[], _∷_};
 ghost use lib.ListN.{length};
 ghost use lib.Seq.{sets};
 ghost use Rattle.wire.specs.Taking.{byteAt, pairAt, byteOf, isItself, threeAhead};
-ghost use Rattle.wire.specs.Sending.{sent, isPlain, writeAt, afterWrite, writtenOf};
+ghost use Rattle.wire.specs.Sending.{sent, isPlain, roomFor, writeAt, afterWrite, writtenOf};
 use memory::Remembered;
 use refusals::Refusal;
 
@@ -20,12 +20,6 @@ pub enum Written {
     // where the next byte goes
     Next(usize),
     NotWritten(Refusal),
-}
-
-// A parameter's bytes before they are sent. A point has the most, five.
-pub struct Spelling {
-    pub bytes: [u8; 5],
-    pub len: usize,
 }
 
 // What stands after the ESC at `at`.
@@ -93,55 +87,50 @@ pub fn three_ahead(s: &[u8], at: usize) -> bool
     false
 }
 
-// The bytes `w` into `out` from `at` on: all of them, or 7 and none.
-pub fn lay(w: &[u8], out: &mut [u8], at: usize) -> Written
-    ensures { λ r. ⌜ (writtenOf r ≡ writeAt (now (w .entry)) (length (now (out .entry))) at) × (now (out .exit) ≡ afterWrite (writtenOf r) (now (w .entry)) (now (out .entry)) at) ⌝ }
+// Where so many bytes end from `at` on, or 7 where they have too little room.
+pub fn room_for(size: usize, room: usize, at: usize) -> Written
+    ensures { λ r. ⌜ writtenOf r ≡ roomFor size room at ⌝ }
 {
-    let room = out.len();
-    let size = w.len();
     if at > room {
         return Written::NotWritten(Refusal::TooShort);
     }
     if size > room - at {
         return Written::NotWritten(Refusal::TooShort);
     }
-    let mut i = 0;
-    while i < size {
-        let to = at + i;
-        out[to] = w[i];
-        i = i + 1;
-    }
     let next = at + size;
     Written::Next(next)
 }
 
-// A parameter's bytes, as they are sent, into `out` from `at` on.
-pub fn send(kept: Remembered, w: &[u8], out: &mut [u8], at: usize) -> Written
-    ensures { λ r. ⌜ (writtenOf r ≡ writeAt (sent kept (now (w .entry))) (length (now (out .entry))) at) × (now (out .exit) ≡ afterWrite (writtenOf r) (sent kept (now (w .entry))) (now (out .entry)) at) ⌝ }
+// The bytes `w` into `out` from `at` on, as far as there is room.
+pub fn copy(w: &[u8], out: &mut [u8], at: usize)
+    ensures { λ _. ⌜ now (out .exit) ≡ sets (now (out .entry)) at (now (w .entry)) ⌝ }
 {
-    lay(w, out, at)
-}
-
-// A parameter's bytes, as they are sent, into `out` from `at` on as far as it has room. Answers how many they are, so that lending no
-// room finds the length.
-pub fn pour(kept: Remembered, w: &[u8], out: &mut [u8], at: usize) -> usize
-    ensures { λ r. ⌜ (r ≡ length (sent kept (now (w .entry)))) × (now (out .exit) ≡ sets (now (out .entry)) at (sent kept (now (w .entry)))) ⌝ }
-{
-    let size = w.len();
     let room = out.len();
     if at >= room {
-        return size;
+        return;
     }
     let mut i = 0;
-    while i < size {
+    while i < w.len() {
         if room - at <= i {
-            return size;
+            return;
         }
         let to = at + i;
         out[to] = w[i];
         i = i + 1;
     }
-    size
+}
+
+// The bytes `w` into `out` from `at` on: all of them, or 7 and none.
+pub fn lay(w: &[u8], out: &mut [u8], at: usize) -> Written
+    ensures { λ r. ⌜ (writtenOf r ≡ writeAt (now (w .entry)) (length (now (out .entry))) at) × (now (out .exit) ≡ afterWrite (writtenOf r) (now (w .entry)) (now (out .entry)) at) ⌝ }
+{
+    match room_for(w.len(), out.len(), at) {
+        Written::Next(next) => {
+            copy(w, out, at);
+            Written::Next(next)
+        }
+        Written::NotWritten(e) => Written::NotWritten(e),
+    }
 }
 
 // One byte of a parameter, as it is sent, behind the `n` bytes from `at` on, where there is room. It goes by value: bytes that are
@@ -161,7 +150,8 @@ pub fn pour_behind(kept: Remembered, n: usize, b: u8, out: &mut [u8], at: usize)
     1
 }
 
-// One, two and three bytes of a parameter, poured as `pour` does.
+// One, two and three bytes of a parameter, as they are sent, from `at` on as far as there is room. Answers how many they are, so that
+// lending no room finds the length.
 pub fn pour_one(kept: Remembered, a: u8, out: &mut [u8], at: usize) -> usize
     ensures { λ r. ⌜ (r ≡ length (sent kept (a ∷ []))) × (now (out .exit) ≡ sets (now (out .entry)) at (sent kept (a ∷ []))) ⌝ }
 {

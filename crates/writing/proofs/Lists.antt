@@ -16,7 +16,7 @@ use Rattle.memory.specs.Memory.{inside, remember}
 use Rattle.refusals.specs.Answers.{Answer, every}
 use Rattle.refusals.proofs.Cases.{and-left, and-right}
 use Rattle.refusals.proofs.Many.{sets-append}
-use Rattle.wire.specs.Sending.{sent, isPlain, poured, writtenOf, writeAt, afterWrite}
+use Rattle.wire.specs.Sending.{sent, isPlain, poured, writtenOf, roomFor, writeAt, afterWrite}
 use Rattle.wire.specs.declared.Written.the-variants.{Next}
 use Rattle.wire.proofs.Laying.{Laying, laying-none, laying-more, laying-end, sent-plain}
 use Rattle.characters.proofs.Entries.{a-byte}
@@ -228,7 +228,7 @@ pub tested : {b t v : Bool} → t ≡ b → t ≡ v → b ≡ v
 tested e h = sym e ∙ h
 
 pub all-written : (w l o : List ℕ) {size : ℕ} (room : ℕ) → Poured w 784 l o 0 size → 784 ≤ room → writtenOf (Next size) ≡ writeAt w room 0
-unfolding writeAt writtenOf
+unfolding writeAt roomFor writtenOf
 all-written w l o {size} room f k =
     let n : 0 + length w ≡ size = omega (arith, f .size) in
     rw (n, le-leb size room (omega (arith, f .few)))

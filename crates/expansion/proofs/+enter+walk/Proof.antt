@@ -11,7 +11,7 @@ use Rattle.expansion.proofs.+enter+walk.Lts-enter as enter-lts
 use Rattle.expansion.proofs.walk.Reads as walk
 use Rattle.expansion.proofs.walk.Kinds as walk-kinds
 use Rattle.expansion.proofs.+enter+walk.Lts-walk as walk-lts
-use Rattle.expansion.proofs.copy.Reads as copy-reads
+use Rattle.wire.proofs.copy.Reads as copy-reads
 use Rattle.macros.proofs.look_by_headers.Reads as look-by-headers-reads
 use Rattle.numbers.proofs.is_negative.Reads as is-negative-reads
 use Rattle.pieces.proofs.piece_at.Reads as piece-at-reads

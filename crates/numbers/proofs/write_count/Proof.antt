@@ -1,6 +1,5 @@
-use lib.Seq.{length-take-le}
 use Rattle.refusals.proofs.Rules.{tests}
-use Rattle.wire.proofs.Laying.{outside, accepted, standing, none-changed, sent-same}
+use Rattle.wire.proofs.Laying.{outside, none-changed, poured-so, poured-stands}
 use borrow.Author.Needs.{needs}
 use Rattle.numbers.proofs.write_count.Statement.{statement}
 use Rattle.numbers.proofs.write_count.Tie as tie
@@ -8,36 +7,44 @@ use Rattle.numbers.proofs.write_count.Tie as tie
 returns : tie.Need-returns
 returns c = search (tests, outside, none-changed)
 
-cast-mag : tie.Need-cast-mag
-cast-mag c = search needs
+slice-aggregate-pour-count : tie.Need-slice-aggregate-pour-count
+slice-aggregate-pour-count c = search needs
 
-spell-integer-requires : tie.Need-spell-integer-requires
-spell-integer-requires c κs = search needs
+pour-count-requires : tie.Need-pour-count-requires
+pour-count-requires c κs = search needs
 
-array-share-prefix-bytes : tie.Need-array-share-prefix-bytes
-array-share-prefix-bytes c = search needs
+room-for-requires : tie.Need-room-for-requires
+room-for-requires c κs = search needs
 
-slice-aggregate-send : tie.Need-slice-aggregate-send
-slice-aggregate-send c = search (needs, length-take-le)
+enum-known-next : tie.Need-enum-known-next
+enum-known-next c = search needs
 
-send-requires : tie.Need-send-requires
-send-requires c κs = search needs
+pour-count-requires-2 : tie.Need-pour-count-requires-2
+pour-count-requires-2 c κs = search needs
+
+enum-known-e : tie.Need-enum-known-e
+enum-known-e c = search needs
 
 same-length : tie.Need-same-length
 same-length c = search needs
 
 returns-2 : tie.Need-returns-2
-returns-2 c = search (tests, accepted, standing, sent-same)
+returns-2 c = search (tests, poured-so, poured-stands)
+
+returns-3 : tie.Need-returns-3
+returns-3 c = search (tests, poured-so, none-changed)
 
 pub write-count-spec : {M : Type 1} → statement M
 write-count-spec =
     tie.close
     (tie.spec
     returns
-    cast-mag
-    spell-integer-requires
-    array-share-prefix-bytes
-    slice-aggregate-send
-    send-requires
+    slice-aggregate-pour-count
+    pour-count-requires
+    room-for-requires
+    enum-known-next
+    pour-count-requires-2
+    enum-known-e
     same-length
-    returns-2)
+    returns-2
+    returns-3)

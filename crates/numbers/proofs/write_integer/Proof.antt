@@ -1,51 +1,54 @@
-use lib.Seq.{length-take-le}
-use Rattle.wire.proofs.Laying.{outside, accepted, standing, none-changed, sent-same}
-use Rattle.numbers.proofs.Writing.{not-integer, an-integer, integer-spelled, under-limit}
+use Rattle.wire.proofs.Laying.{outside, none-changed}
+use Rattle.numbers.proofs.Writing.{no-integer, integer-so, integer-stands}
 use borrow.Author.Needs.{needs}
 use Rattle.numbers.proofs.write_integer.Statement.{statement}
 use Rattle.numbers.proofs.write_integer.Tie as tie
 
-is-negative-requires : tie.Need-is-negative-requires
-is-negative-requires c κs = search needs
-
-magnitude-requires : tie.Need-magnitude-requires
-magnitude-requires c κs = search needs
-
-limit-of-requires : tie.Need-limit-of-requires
-limit-of-requires c κs = search needs
+is-integer-requires : tie.Need-is-integer-requires
+is-integer-requires c κs = search needs
 
 returns : tie.Need-returns
-returns c = search (needs, outside, none-changed, not-integer)
+returns c = search (needs, outside, none-changed, no-integer)
 
-spell-integer-requires : tie.Need-spell-integer-requires
-spell-integer-requires c κs = search (needs, under-limit)
+slice-aggregate-pour-integer : tie.Need-slice-aggregate-pour-integer
+slice-aggregate-pour-integer c = search needs
 
-array-share-prefix-bytes : tie.Need-array-share-prefix-bytes
-array-share-prefix-bytes c = search (needs, under-limit)
+pour-integer-requires : tie.Need-pour-integer-requires
+pour-integer-requires c κs = search needs
 
-slice-aggregate-send : tie.Need-slice-aggregate-send
-slice-aggregate-send c = search (needs, length-take-le)
+room-for-requires : tie.Need-room-for-requires
+room-for-requires c κs = search needs
 
-send-requires : tie.Need-send-requires
-send-requires c κs = search needs
+enum-known-next : tie.Need-enum-known-next
+enum-known-next c = search needs
+
+pour-integer-requires-2 : tie.Need-pour-integer-requires-2
+pour-integer-requires-2 c κs = search needs
+
+enum-known-e : tie.Need-enum-known-e
+enum-known-e c = search needs
 
 same-length : tie.Need-same-length
 same-length c = search needs
 
 returns-2 : tie.Need-returns-2
-returns-2 c = search (needs, accepted, standing, sent-same, an-integer, integer-spelled)
+returns-2 c = search (needs, integer-so, integer-stands)
+
+returns-3 : tie.Need-returns-3
+returns-3 c = search (needs, integer-so, none-changed)
 
 pub write-integer-spec : {M : Type 1} → statement M
 write-integer-spec =
     tie.close
     (tie.spec
-    is-negative-requires
-    magnitude-requires
-    limit-of-requires
+    is-integer-requires
     returns
-    spell-integer-requires
-    array-share-prefix-bytes
-    slice-aggregate-send
-    send-requires
+    slice-aggregate-pour-integer
+    pour-integer-requires
+    room-for-requires
+    enum-known-next
+    pour-integer-requires-2
+    enum-known-e
     same-length
-    returns-2)
+    returns-2
+    returns-3)

@@ -5,14 +5,8 @@ use borrow.Author.Needs.{needs}
 use Rattle.points.proofs.pour_point.Statement.{statement}
 use Rattle.points.proofs.pour_point.Tie as tie
 
-is-inside-requires : tie.Need-is-inside-requires
-is-inside-requires c κs = search needs
-
-is-inside-requires-2 : tie.Need-is-inside-requires-2
-is-inside-requires-2 c κs = search needs
-
-both-requires : tie.Need-both-requires
-both-requires c κs = search needs
+are-inside-requires : tie.Need-are-inside-requires
+are-inside-requires c κs = search needs
 
 bytes-of-requires : tie.Need-bytes-of-requires
 bytes-of-requires c κs = search (needs, tested-first)
@@ -36,9 +30,7 @@ pub pour-point-spec : {M : Type 1} → statement M
 pour-point-spec =
     tie.close
     (tie.spec
-    is-inside-requires
-    is-inside-requires-2
-    both-requires
+    are-inside-requires
     bytes-of-requires
     bytes-of-requires-2
     pour-bytes-requires

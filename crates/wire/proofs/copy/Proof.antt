@@ -1,19 +1,17 @@
-use Rattle.wire.specs.Sending.{sent}
-use borrow.Author.Needs.{needs}
 use Prim.Native.Nat.{_-_}
 use lib.ListN.{length}
+use borrow.Author.Needs.{needs}
 use Rattle.wire.proofs.Laying.{Laying, pourings}
-use Rattle.wire.proofs.pour.Statement.{statement}
-use Rattle.wire.proofs.pour.Tie as tie
+use Rattle.wire.proofs.copy.Statement.{statement}
+use Rattle.wire.proofs.copy.Tie as tie
 
 abbrev Inv-loop : tie.InvT-loop
-Inv-loop w out₀ at size room i₀ out i = Laying w out₀ out at i
+Inv-loop w out₀ at room i₀ out i = Laying w out₀ out at i
 
 abbrev μ-loop : tie.MeasureT-loop
-μ-loop w out₀ at size room i₀ out i = length w - i
+μ-loop w out₀ at room i₀ out i = length w - i
 
 returns : tie.Need-returns Inv-loop μ-loop
-unfolding sent
 returns c = search (needs, pourings)
 
 loop-holds : tie.Need-loop-holds Inv-loop μ-loop
@@ -26,7 +24,6 @@ same-length : tie.Need-same-length Inv-loop μ-loop
 same-length c = search (needs, pourings)
 
 returns-2 : tie.Need-returns-2 Inv-loop μ-loop
-unfolding sent
 returns-2 c = search (needs, pourings)
 
 add-to : tie.Need-add-to Inv-loop μ-loop
@@ -51,11 +48,10 @@ same-length-2 : tie.Need-same-length-2 Inv-loop μ-loop
 same-length-2 c = search (needs, pourings)
 
 returns-3 : tie.Need-returns-3 Inv-loop μ-loop
-unfolding sent
 returns-3 c = search (needs, pourings)
 
-pub pour-spec : {M : Type 1} → statement M
-pour-spec =
+pub copy-spec : {M : Type 1} → statement M
+copy-spec =
     tie.close
     (tie.spec
     Inv-loop
