@@ -25,9 +25,6 @@ use Rattle.expansion.specs.Expansion.{Stretch, gives, stops, front, andT
 
 -- ---- joining stretches
 
-pub front-nil : (c : Stretch) → front [] c ≡ c
-front-nil c = refl
-
 pub front-front : (a b : List ℕ) (c : Stretch) → front a (front b c) ≡ front (a ++ b) c
 front-front a b c = ap (λ (l : List ℕ). record { bytes = l; entered = c .entered; kept = c .kept; number = c .number }) (sym (append-assoc a b (c .bytes)))
 

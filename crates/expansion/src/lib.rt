@@ -2,7 +2,6 @@
 // First a run that only looks finds the first trouble, the length and the macros entered; then, where all of it fits, one that writes.
 ghost use mathlib.Core.Path.{_≡_};
 ghost use lib.ListN.{length};
-ghost use lib.Seq.{sets};
 ghost use Rattle.expansion.specs.Expansion.{stepOf, reached, bodyStretch, callStretch, expansionOf, expandTold, expandOut, roomTold, roomOut, started};
 ghost use Rattle.expansion.specs.Running.{Formed, Roomy, Ran};
 use macros::Finding;

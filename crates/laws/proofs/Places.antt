@@ -13,7 +13,7 @@ use Rattle.memory.specs.declared.Point.{Point}
 use Rattle.memory.specs.declared.Remembered.{Remembered}
 use Rattle.memory.specs.Memory.{inside}
 use Rattle.refusals.specs.Answers.{Answer, done, refused, Read, then, pick, endsAfter, every}
-use Rattle.refusals.proofs.Cases.{by-pick, done-of, and-left, and-right, Ranged, ranged-done, ranged-refused, farther, ranged-then, ranged-of, ranged-to}
+use Rattle.refusals.proofs.Cases.{by-pick, done-of, and-left, and-right, Ranged, ranged-done, ranged-refused, farther, ranged-then, ranged-to}
 use Rattle.wire.specs.Taking.{byteAt}
 use Rattle.wire.specs.Taking.{pairAt as escPairAt}
 use Rattle.wire.proofs.Feeds.{Took, took}

@@ -63,5 +63,3 @@ pub poured-long : {l w o : List ℕ} {at n : ℕ} → Poured l at w n o → leng
 poured-long {l = l} {w = w} {at = at} p = ap length (p .stands) ∙ length-sets l at w
 
 pub ruleset bytes = (poured-none, poured-inside, poured-past, poured-far)
-
-pub ruleset pourings = (poured-none, poured-both, poured-long)

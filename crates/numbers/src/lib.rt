@@ -279,6 +279,7 @@ pub fn write_integer(kept: Remembered, v: i32, out: &mut [u8], at: usize) -> Wri
     if !is_integer(v) {
         return Written::NotWritten(Refusal::NotValid);
     }
+    // poured into no room, which finds the length: nothing lent is touched before it is known to fit
     let mut none = [0u8; 0];
     let size = pour_integer(kept, v, &mut none, 0);
     match wire::room_for(size, out.len(), at) {
@@ -297,6 +298,7 @@ pub fn write_count(kept: Remembered, n: usize, out: &mut [u8], at: usize) -> Wri
     if n > MOST_ENTRIES {
         return Written::NotWritten(Refusal::NotValid);
     }
+    // poured into no room, which finds the length: nothing lent is touched before it is known to fit
     let mut none = [0u8; 0];
     let size = pour_count(kept, n, &mut none, 0);
     match wire::room_for(size, out.len(), at) {

@@ -294,6 +294,7 @@ pub fn write_point(kept: Remembered, point: Point, out: &mut [u8], at: usize) ->
     if !are_inside(remembered, point) {
         return Written::NotWritten(Refusal::NotValid);
     }
+    // poured into no room, which finds the length: nothing lent is touched before it is known to fit
     let mut none = [0u8; 0];
     let size = pour_point(kept, point, &mut none, 0);
     match wire::room_for(size, out.len(), at) {

@@ -86,10 +86,6 @@ unfolding Ranged
 ranged-then f g at end (done x) k h next = next x refl (h .0) (h .1)
 ranged-then f g at end (refused e p) k h next = h
 
-pub ranged-of : {A : Type 0} (next : A → ℕ) (at end : ℕ) {a : Answer A} {e p : ℕ} → Ranged next at end a → a ≡ refused e p → (at ≤ p) × (p ≤ end)
-unfolding Ranged
-ranged-of next at end h q = subst (Ranged next at end) q h
-
 pub ranged-to : {A : Type 0} (next : A → ℕ) (at end : ℕ) {a : Answer A} {x : A} → Ranged next at end a → a ≡ done x → (at ≤ next x) × (next x ≤ end)
 unfolding Ranged
 ranged-to next at end h q = subst (Ranged next at end) q h

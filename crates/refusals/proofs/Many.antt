@@ -1,7 +1,7 @@
 -- Readings one after the other, as a turn of a loop takes one: what is left ends where the whole ends.
 use Prim.Native.Nat.{ℕ, zero, suc, _+_, _-_, _≤_, _<_}
 use mathlib.Core.Path.{_≡_, refl, sym, _∙_, ap}
-use mathlib.Core.Bool.{Bool, true, false, _&&_}
+use mathlib.Core.Bool.{Bool, true, _&&_}
 use mathlib.Core.List.{List, [], _∷_, _++_}
 use native.Mathlib.Omega.{arith}
 use native.Mathlib.Numerals.{add-one}
@@ -78,9 +78,6 @@ module _ {A : Type 0} (one : ℕ → Answer (Read A)) where
 
   pub filling-cut : (at count : ℕ) (l₀ l : List A) (i pos : ℕ) {x p : ℕ} → Filling at count l₀ l i pos → one pos ≡ refused x p → l ≡ sets l₀ 0 (allAfter one count at)
   filling-cut at count l₀ l i pos f e = rw (nil-of (count - i) pos e) at (f .whole)
-
-  pub filling-full : (at count : ℕ) (l₀ l : List A) (i pos : ℕ) → Filling at count l₀ l i pos → length l ≤ i → l ≡ sets l₀ 0 (allAfter one count at)
-  filling-full at count l₀ l i pos f h = sym (past-end l i (allAfter one (count - i) pos) h) ∙ f .whole
 
 -- ---- testing a list, one entry a turn; the tests go on behind an entry that fails
 

@@ -1,4 +1,4 @@
-// The refusals of document 01 by name, and the number of each ("Numbers the unit gives back").
+// The refusals of document 01 by name, the number of each ("Numbers the unit gives back"), and the joining of two tests.
 ghost use mathlib.Core.Path.{_≡_};
 ghost use mathlib.Core.Bool.{_&&_};
 ghost use Rattle.refusals.specs.Refusals.{numberOf};

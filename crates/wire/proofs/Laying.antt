@@ -191,8 +191,6 @@ none-size w e = ap length (not-poured w e)
 pub none-stand : (w l : List ℕ) (at : ℕ) {ok : Bool} → ok ≡ false → l ≡ sets l at (poured ok w)
 none-stand w l at e = ap (λ (x : List ℕ). sets l at x) (not-poured w e)
 
-pub ruleset pours = (pours-size, pours-stand, none-size, none-stand, sent-same)
-
 -- ---- written by pouring, once it is known that there is room
 
 module _ (w l : List ℕ) (at : ℕ) {ok : Bool} (t : ok ≡ true) where
@@ -205,5 +203,3 @@ module _ (w l : List ℕ) (at : ℕ) {ok : Bool} (t : ok ≡ true) where
   poured-stands n j = all-changed w l at n (rw t at j)
 
 pub ruleset rooms = (at-past, no-room, has-room)
-
-pub ruleset layings = (laying-none, laying-more, laying-end)

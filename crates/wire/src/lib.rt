@@ -1,4 +1,4 @@
-// A parameter's bytes on the wire: the one place where they are taken, and the one place where they are sent.
+// A parameter's bytes on the wire: the one place that knows how they are taken and how they are sent.
 ghost use mathlib.Core.Path.{_≡_};
 ghost use Prim.Native.Nat.{_<_, _+_};
 ghost use mathlib.Core.List.{[], _∷_};
@@ -59,6 +59,7 @@ pub fn take(kept: Remembered, s: &[u8], at: usize) -> ByteRead
     ByteRead::Byte(b, at, next)
 }
 
+// A byte that is taken as it stands: neither ESC nor DEL.
 fn is_itself(b: u8) -> bool
     ensures { λ r. ⌜ r ≡ isItself b ⌝ }
 {
