@@ -1,5 +1,5 @@
 -- "that many bytes 32..127", as entries of a lent list of numbers.
-use Prim.Native.Nat.{ℕ}
+use Prim.Native.Nat.{ℕ, _%_}
 use mathlib.Core.Bool.{Bool}
 use mathlib.Core.List.{List, map}
 use lib.IntN.{ℤ, pos, natAbs}
@@ -15,6 +15,10 @@ areCharacters vs = every isCharacter vs
 -- entries as bytes, and bytes as entries
 abbrev pub bytesOf : List ℤ → List ℕ
 bytesOf vs = map natAbs vs
+
+-- the same where an entry may be no byte: what does not fit is lost
+abbrev pub lowBytes : List ℤ → List ℕ
+lowBytes vs = map (λ v. natAbs v % 256) vs
 
 abbrev pub entriesOf : List ℕ → List ℤ
 entriesOf bs = map pos bs

@@ -1,8 +1,9 @@
-// Characters as entries of a lent list of numbers: 32 to 127.
+// Characters as entries of a lent list of numbers: 32 to 127. Entries as bytes, and bytes as entries.
 ghost use mathlib.Core.Path.{_≡_};
 ghost use Prim.Native.Nat.{_%_};
 ghost use lib.IntN.{natAbs, pos};
-ghost use Rattle.characters.specs.Characters.{isCharacter, areCharacters};
+ghost use lib.Seq.{sets};
+ghost use Rattle.characters.specs.Characters.{isCharacter, areCharacters, lowBytes};
 
 pub fn is_character(v: i32) -> bool
     ensures { λ r. ⌜ r ≡ isCharacter v ⌝ }
@@ -27,4 +28,18 @@ pub fn entry_of(b: u8) -> i32
     ensures { λ r. ⌜ r ≡ pos b ⌝ }
 {
     b as i32
+}
+
+// The bytes of the entries into `out` from `at` on, as far as there is room: nothing is asked between one and the next.
+pub fn lay(list: &[i32], out: &mut [u8], at: usize)
+    ensures { λ _. ⌜ now (out .exit) ≡ sets (now (out .entry)) at (lowBytes (now (list .entry))) ⌝ }
+{
+    let count = wire::in_room(list.len(), out.len(), at);
+    let mut i = 0;
+    while i < count {
+        let v = list[i];
+        let to = at + i;
+        out[to] = byte_of(v);
+        i = i + 1;
+    }
 }

@@ -55,8 +55,7 @@ fn walk<'a>(
             Piece::Broken => return Step::Stopped(Refusal::BodyRefused),
             Piece::Copied(next, after) => {
                 wire::copy(&body[i..next], out, at);
-                let behind = at + (next - i);
-                going.at = behind;
+                going.at = at + (next - i);
                 going.kept = after;
                 i = next;
             }

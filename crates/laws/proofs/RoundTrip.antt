@@ -12,8 +12,9 @@ use lib.IntN.{ℤ, pos, natAbs}
 use Rattle.memory.specs.declared.Point.{Point}
 use Rattle.memory.specs.declared.Remembered.{Remembered}
 use Rattle.memory.specs.Memory.{inside, remember}
-use Rattle.refusals.specs.Answers.{Answer, done, refused, Read, Reads, then, pick, endsAfter, allAfter, every}
+use Rattle.refusals.specs.Answers.{Answer, done, refused, Read, Reads, then, pick, endsAfter, allAfter}
 use Rattle.refusals.proofs.Cases.{and-left, and-right, zero-one}
+use Rattle.refusals.proofs.Many.{every-split}
 use Rattle.wire.specs.Taking.{byteAt}
 use Rattle.wire.specs.Sending.{sent}
 use Rattle.wire.proofs.Feeds.{Stands, stands-left, stands-right, stands-between, Feeds, sent-taken}
@@ -64,21 +65,13 @@ entry-back ACharacter kept s at v ok st = from (sent-taken kept s at (natAbs v �
     from : Feeds kept s at (natAbs v ∷ []) (at + length (sent kept (natAbs v ∷ []))) → Reads v (at + length (sent kept (natAbs v ∷ []))) (entryAt ACharacter kept s at)
     from (p, (m, (e, z))) = rw e (range .1 .1, z)
 
-spelled : (e : Entry) (kept : Remembered) (v : ℤ) (vs : List ℤ) → spellEntries e kept (v ∷ vs) ≡ spellEntry e kept v ++ spellEntries e kept vs
-unfolding spellEntries
-spelled e kept v vs = refl
-
-split : {A : Type 0} (ok : A → Bool) (x : A) (xs : List A) → every ok (x ∷ xs) ≡ true → (ok x ≡ true) × (every ok xs ≡ true)
-unfolding every
-split ok x xs h = (and-left (ok x) (every ok xs) h, and-right (ok x) (every ok xs) h)
-
 entries-back : (e : Entry) (kept : Remembered) (s : List ℕ) (vs : List ℤ) (at : ℕ) → areEntries e vs ≡ true → Stands s at (spellEntries e kept vs) → (endsAfter (entryAt e kept s) (length vs) at ≡ done (at + length (spellEntries e kept vs))) × (allAfter (entryAt e kept s) (length vs) at ≡ vs)
 unfolding endsAfter allAfter spellEntries
 entries-back e kept s [] at ok st = (ap done (omega arith), refl)
 entries-back e kept s (v ∷ vs) at ok st =
     let w = spellEntry e kept v in
     let rest = spellEntries e kept vs in
-    let q = split (isEntry e) v vs ok in
+    let q = every-split (isEntry e) v vs ok in
     let (r, (er, (ev, en))) = got (entryAt e kept s at) v (at + length w) (entry-back e kept s at v (q .0) (stands-left s at w rest st)) in
     let (f, g) = entries-back e kept s vs (at + length w) (q .1) (stands-right s at w rest st) in
     let z : at + length w + length rest ≡ at + length (w ++ rest) = omega (arith, length-append w rest) in
@@ -127,7 +120,7 @@ module _ (s : List ℕ) where
   values-back kept (v ∷ vs) at i ok st =
       let w = spellValue kept v in
       let rest = spellValues (afterValue kept v) vs in
-      let q = split isValue v vs ok in
+      let q = every-split isValue v vs ok in
       let f = value-back kept v at i (q .0) (stands-left s at w rest st) in
       let g = values-back (afterValue kept v) vs (at + length w) (still-inside kept v i (q .0)) (q .1) (stands-right s at w rest st) in
       let z : at + length w + length rest ≡ at + length (w ++ rest) = omega (arith, length-append w rest) in

@@ -22,6 +22,8 @@ use Rattle.refusals.proofs.Many.{sets-append}
 use Rattle.refusals.proofs.Numbers.{not-nought}
 use Rattle.ranges.specs.Ranges.{within}
 use Rattle.ranges.proofs.Entries.{within-range}
+use Rattle.characters.specs.Characters.{lowBytes}
+use Rattle.characters.proofs.Entries.{all-bytes}
 use Rattle.macros.specs.declared.Gap.{Gap}
 use Rattle.macros.specs.declared.Survey.{Survey}
 use Rattle.macros.specs.declared.Survey.the-variants.{Formed, Malformed}
@@ -46,9 +48,6 @@ module _ (L : Layout) (count : ℕ) where
 
   pub room-header : {size : ℕ} (at n : ℕ) → size ≡ L .size → (count ≡ 0 → ⊥) → at + roomFor L count ≤ n → at + size ≤ n
   room-header at n e h g = omega (arith, room-some e h, g)
-
-  pub room-body : {size : ℕ} (at : ℕ) (s t : List ℕ) → size ≡ L .size → (count ≡ 0 → ⊥) → at + roomFor L count ≤ length s → length t ≡ length s → at + size + count ≤ length t
-  room-body at s t e h g l = omega (arith, room-some e h, g, l)
 
 pub ruleset rooms = (three-size, room-none, room-some)
 
@@ -78,17 +77,18 @@ module _ (L : Layout) (number : ℕ) (cs : List ℤ) (s : List ℕ) (at : ℕ) w
       go [] q = refl
       go (x ∷ xs) q = absurd (omega (arith, q))
 
-  pub entry-written : (lawful : Lawful L) {size : ℕ} {t u : List ℕ} → size ≡ L .size → (length cs ≡ 0 → ⊥) → t ≡ sets s at (L .pack number (length cs)) → u ≡ sets t (at + size) (map natAbs cs)
+  pub entry-written : (lawful : Lawful L) {size : ℕ} {t u : List ℕ} → size ≡ L .size → (length cs ≡ 0 → ⊥) → every (within 0 127) cs ≡ true → t ≡ sets s at (L .pack number (length cs)) → u ≡ sets t (at + size) (lowBytes cs)
       → u ≡ sets s at (encoded L (one number (map natAbs cs)))
-  entry-written lawful {size} {t} {u} e h et eu =
+  entry-written lawful {size} {t} {u} e h ok et eu =
       let p : List ℕ = L .pack number (length cs) in
       let l : size ≡ length p = e ∙ sym (lawful .sized number (length cs)) in
-      eu ∙ ap (λ (x : List ℕ). sets x (at + size) (map natAbs cs)) et
+      eu ∙ ap (sets t (at + size)) (all-bytes 0 cs ok)
+      ∙ ap (λ (x : List ℕ). sets x (at + size) (map natAbs cs)) et
       ∙ ap (λ (k : ℕ). sets (sets s at p) (at + k) (map natAbs cs)) l
       ∙ sets-append p (map natAbs cs) s at
       ∙ ap (sets s at) (one-encoded L number cs h)
 
-pub ruleset writings = (three-size, three-lawful, room-header, room-body, nothing-written, entry-written)
+pub ruleset writings = (three-size, three-lawful, room-header, nothing-written, entry-written)
 
 -- ---- the bytes of entries one behind the other
 

@@ -1,18 +1,12 @@
--- Moving a stretch within a store, writing an entry and clearing, one byte a turn: what is left ends where the whole ends.
+-- Moving a stretch within a store, writing a header and clearing, one byte a turn: what is left ends where the whole ends.
 use Prim.Native.Nat.{ℕ, suc, _+_, _-_, _*_, _/_, _%_, _≤_, _<_}
 use mathlib.Core.Path.{_≡_, refl, sym, _∙_, ap}
-use mathlib.Core.Bool.{true}
-use mathlib.Core.List.{List, [], _∷_, _++_, map}
+use mathlib.Core.List.{List, [], _∷_, _++_}
 use native.Mathlib.Omega.{arith}
 use native.Mathlib.Numerals.{add-one, add-two}
-use lib.ListN.{length, getD, take, drop, set, replicate, length-set, length-take, length-drop, drop-of-length-le}
+use lib.ListN.{length, getD, take, drop, set, replicate, length-set, length-take, length-drop}
 use lib.Seq.{sets, drop-cons, take-suc, getD-drop, drop-set-lt, drop-set-add, take-set-le, set-comm}
-use lib.IntN.{ℤ, pos, natAbs}
-use Rattle.refusals.specs.Answers.{every}
-use Rattle.refusals.proofs.Cases.{and-left, and-right}
 use Rattle.refusals.proofs.Many.{sets-append}
-use Rattle.ranges.specs.Ranges.{within}
-use Rattle.ranges.proofs.Entries.{within-range}
 use Rattle.macros.specs.Store.{threeBytes}
 
 -- ---- towards the front
@@ -108,46 +102,6 @@ pub ruleset raisings = (raising-none, raising-more, raising-end)
 pub header-set : (s : List ℕ) (at number long : ℕ) → set (set (set s at ((number * 512 + long) / 65536)) (at + 1) ((number * 512 + long) / 256 % 256)) (at + 2) ((number * 512 + long) % 256) ≡ sets s at (threeBytes .pack number long)
 unfolding threeBytes
 header-set s at number long = rw (add-one at, add-two at)
-
--- ---- a body
-
-pub record Pouring (list : List ℤ) (s₀ s : List ℕ) (at i : ℕ) : Type 0 where
-  pub upto : i ≤ length list
-  pub ok : every (within 0 127) (drop i list) ≡ true
-  pub room : at + length list ≤ length s₀
-  pub long : length s ≡ length s₀
-  pub whole : sets s (at + i) (map natAbs (drop i list)) ≡ sets s₀ at (map natAbs list)
-
-pub pouring-none : (list : List ℤ) (s : List ℕ) (at : ℕ) → every (within 0 127) list ≡ true → at + length list ≤ length s → Pouring list s s at 0
-pouring-none list s at e h =
-    let y : at + 0 ≡ at = omega arith in
-    record { upto = omega arith; ok = e; room = h; long = refl; whole = rw y }
-
-first-of : (v : ℤ) (vs : List ℤ) → every (within 0 127) (v ∷ vs) ≡ true → (within 0 127 v ≡ true) × (every (within 0 127) vs ≡ true)
-unfolding every
-first-of v vs e = (and-left (within 0 127 v) (every (within 0 127) vs) e, and-right (within 0 127 v) (every (within 0 127) vs) e)
-
-a-byte : (v : ℤ) → within 0 127 v ≡ true → natAbs v % 256 ≡ natAbs v
-a-byte v e = let h : natAbs v ≤ 127 = within-range 0 127 v e .1 .0 in omega arith
-
-pub pouring-more : (list : List ℤ) (s₀ s : List ℕ) (at i : ℕ) (v : ℤ) {b : ℕ} → Pouring list s₀ s at i → i < length list → b ≡ natAbs v % 256 → v ≡ getD list i (pos 0) → Pouring list s₀ (set s (at + i) b) at (i + 1)
-pouring-more list s₀ s at i v {b} f h eb ev =
-    let d : drop i list ≡ v ∷ drop (i + 1) list = drop-cons list i (pos 0) h ∙ rw (ev, add-one i) in
-    let c = first-of v (drop (i + 1) list) (rw d at (f .ok)) in
-    let x : b ≡ natAbs v = eb ∙ a-byte v (c .0) in
-    let y : at + (i + 1) ≡ at + i + 1 = omega arith in
-    record {
-      upto = omega (arith, h);
-      ok = c .1;
-      room = f .room;
-      long = length-set s (at + i) b ∙ f .long;
-      whole = rw (y, add-one (at + i), x) (rw d at (f .whole));
-    }
-
-pub pouring-end : (list : List ℤ) (s₀ s : List ℕ) (at i : ℕ) → Pouring list s₀ s at i → length list ≤ i → s ≡ sets s₀ at (map natAbs list)
-pouring-end list s₀ s at i f h = let d : drop i list ≡ [] = drop-of-length-le list h in rw d at (f .whole)
-
-pub ruleset pourings = (pouring-none, pouring-more, pouring-end)
 
 -- ---- zeros to the end
 

@@ -369,18 +369,6 @@ fn write_header(store: &mut [u8], at: usize, number: usize, long: usize)
     store[at + 2] = third;
 }
 
-fn write_body(store: &mut [u8], at: usize, contents: &[i32])
-    requires { ⌜ (at + length (now contents) ≤ length (now store)) × (every (within 0 127) (now contents) ≡ true) ⌝ }
-    ensures { λ r. ⌜ now (store .exit) ≡ sets (now (store .entry)) at (map natAbs (now (contents .entry))) ⌝ }
-{
-    let mut i = 0;
-    while i < contents.len() {
-        let to = at + i;
-        store[to] = characters::byte_of(contents[i]);
-        i += 1;
-    }
-}
-
 fn clear_from(store: &mut [u8], at: usize)
     ensures { λ r. ⌜ now (store .exit) ≡ sets (now (store .entry)) at (replicate (length (now (store .entry)) - at) 0) ⌝ }
 {
@@ -413,7 +401,7 @@ fn write_entry(store: &mut [u8], at: usize, number: usize, contents: &[i32])
     }
     write_header(store, at, number, count);
     let from = at + HEADER;
-    write_body(store, from, contents);
+    characters::lay(contents, store, from);
 }
 
 // ---- defining

@@ -8,7 +8,7 @@ use native.Mathlib.Numerals.{add-one}
 use lib.ListN.{length, getD, drop, set, length-set, drop-of-length-le}
 use lib.Seq.{sets, set-out, drop-cons}
 use Rattle.refusals.specs.Answers.{Answer, done, refused, Read, endsAfter, allAfter, every}
-use Rattle.refusals.proofs.Cases.{and-true, and-assoc}
+use Rattle.refusals.proofs.Cases.{and-left, and-right, and-true, and-assoc}
 
 -- nothing is stored past the end
 pub past-end : {A : Type 0} (l : List A) (i : ℕ) (w : List A) → length l ≤ i → sets l i w ≡ l
@@ -80,6 +80,10 @@ module _ {A : Type 0} (one : ℕ → Answer (Read A)) where
   filling-cut at count l₀ l i pos f e = rw (nil-of (count - i) pos e) at (f .whole)
 
 -- ---- testing a list, one entry a turn; the tests go on behind an entry that fails
+
+pub every-split : {A : Type 0} (ok : A → Bool) (x : A) (xs : List A) → every ok (x ∷ xs) ≡ true → (ok x ≡ true) × (every ok xs ≡ true)
+unfolding every
+every-split ok x xs e = (and-left (ok x) (every ok xs) e, and-right (ok x) (every ok xs) e)
 
 pub record Checking {A : Type 0} (ok : A → Bool) (list : List A) (i : ℕ) (good : Bool) : Type 0 where
   pub upto : i ≤ length list

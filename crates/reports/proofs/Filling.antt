@@ -1,22 +1,13 @@
--- Bytes into entries and entries into bytes, one a turn: what is left ends where the whole ends.
-use Prim.Native.Nat.{ℕ, zero, suc, _+_, _-_, _%_, _≤_, _<_}
-use mathlib.Core.Path.{_≡_, refl, sym, _∙_, ap}
-use mathlib.Core.Bool.{Bool, true, false, _&&_}
-use mathlib.Core.List.{List, [], _∷_, _++_, map}
+-- Bytes into entries, one a turn: what is left ends where the whole ends.
+use Prim.Native.Nat.{ℕ, suc, _+_, _-_, _≤_, _<_}
+use mathlib.Core.Path.{_≡_, refl, _∙_, ap}
+use mathlib.Core.List.{List, _∷_}
 use native.Mathlib.Omega.{arith}
 use native.Mathlib.Numerals.{add-one}
-use borrow.Author.Tests.{leb-true}
-use lib.Dec.{leb}
-use lib.ListN.{length, getD, take, drop, set, length-set, drop-of-length-le}
+use lib.ListN.{length, getD, set, length-set}
 use lib.Seq.{sets, drop-cons}
-use lib.IntN.{ℤ, pos, negsuc, natAbs}
-use Rattle.refusals.specs.Answers.{every}
-use Rattle.refusals.proofs.Cases.{and-left, and-right, zero-one}
-use Rattle.characters.proofs.Entries.{a-byte}
-use Rattle.characters.specs.Characters.{isCharacter, areCharacters, bytesOf}
+use lib.IntN.{ℤ, pos}
 use Rattle.reports.specs.Reading.{entriesAt}
-
--- ---- bytes into entries
 
 pub record Filling (s : List ℕ) (at count : ℕ) (l₀ l : List ℤ) (i : ℕ) : Type 0 where
   pub upto : i ≤ count
@@ -51,38 +42,3 @@ filling-more s at count l₀ l i x f h e =
 
 pub filling-end : (s : List ℕ) (at count : ℕ) (l₀ l : List ℤ) (i : ℕ) → Filling s at count l₀ l i → count ≤ i → l ≡ sets l₀ 0 (entriesAt count s at)
 filling-end s at count l₀ l i f h = let z : count - i ≡ 0 = omega arith in rw z at (f .whole)
-
--- ---- entries into bytes
-
-pub record Emptying (list : List ℤ) (out₀ out : List ℕ) (at i : ℕ) : Type 0 where
-  pub upto : i ≤ length list
-  pub ok : areCharacters (drop i list) ≡ true
-  pub room : at + length list ≤ length out₀
-  pub long : length out ≡ length out₀
-  pub whole : sets out (at + i) (bytesOf (drop i list)) ≡ sets out₀ at (bytesOf list)
-
-pub emptying-none : (list : List ℤ) (out : List ℕ) (at : ℕ) → areCharacters list ≡ true → at + length list ≤ length out → Emptying list out out at 0
-emptying-none list out at e h =
-    let y : at + 0 ≡ at = omega arith in
-    record { upto = omega arith; ok = e; room = h; long = refl; whole = rw y }
-
-pub head-of : (v : ℤ) (vs : List ℤ) → areCharacters (v ∷ vs) ≡ true → (isCharacter v ≡ true) × (areCharacters vs ≡ true)
-unfolding every
-head-of v vs e = (and-left (isCharacter v) (areCharacters vs) e, and-right (isCharacter v) (areCharacters vs) e)
-
-pub emptying-more : (list : List ℤ) (out₀ out : List ℕ) (at i : ℕ) (v : ℤ) {b : ℕ} → Emptying list out₀ out at i → i < length list → b ≡ natAbs v % 256 → v ≡ getD list i (pos 0) → Emptying list out₀ (set out (at + i) b) at (i + 1)
-emptying-more list out₀ out at i v {b} f h eb ev =
-    let d : drop i list ≡ v ∷ drop (i + 1) list = drop-cons list i (pos 0) h ∙ rw (ev, add-one i) in
-    let c = head-of v (drop (i + 1) list) (rw d at (f .ok)) in
-    let x : b ≡ natAbs v = eb ∙ a-byte v (c .0) in
-    let y : at + (i + 1) ≡ at + i + 1 = omega arith in
-    record {
-      upto = omega arith;
-      ok = c .1;
-      room = f .room;
-      long = length-set out (at + i) b ∙ f .long;
-      whole = rw (y, add-one (at + i), x) (rw d at (f .whole));
-    }
-
-pub emptying-end : (list : List ℤ) (out₀ out : List ℕ) (at i : ℕ) → Emptying list out₀ out at i → length list ≤ i → out ≡ sets out₀ at (bytesOf list)
-emptying-end list out₀ out at i f h = let d : drop i list ≡ [] = drop-of-length-le list h in rw d at (f .whole)

@@ -11,6 +11,7 @@ use lib.Seq.{ext-getD, getD-take, getD-drop, length-take-le}
 use lib.IntN.{ℤ, pos, negsuc, natAbs}
 use Rattle.refusals.specs.Answers.{Answer, done, refused, Read, Reads, endsAfter}
 use Rattle.refusals.proofs.Cases.{and-left, and-right, zero-one}
+use Rattle.refusals.proofs.Many.{every-split}
 use Rattle.wire.proofs.Feeds.{Stands, stands-between, stands-left, stands-right}
 use Rattle.numbers.specs.Integers.{signedOf, isNegative, lowOf}
 use Rattle.numbers.specs.Counts.{countIn}
@@ -18,7 +19,6 @@ use Rattle.ranges.proofs.Entries.{within-range}
 use Rattle.characters.specs.Characters.{isCharacter, areCharacters, bytesOf}
 use Rattle.reports.specs.Reading.{within, reportValue, reportFrom, reportAt, charactersEnd, stringAt, entriesAt}
 use Rattle.reports.specs.Writing.{spellReportOf, spellReport, isReport, spellString, isString}
-use Rattle.reports.proofs.Filling.{head-of}
 
 within-is : (least most : ℕ) (s : List ℕ) (at b : ℕ) → at < length s → getD s at 0 ≡ b → least ≤ b → b ≤ most → within least most s at ≡ done (record { value = b; place = at; next = at + 1 })
 unfolding within
@@ -71,7 +71,7 @@ run-back : (vs : List ℤ) (s : List ℕ) (at : ℕ) → areCharacters vs ≡ tr
 unfolding endsAfter
 run-back [] s at ok st = ap done (omega arith)
 run-back (v ∷ vs) s at ok st =
-    let c = head-of v vs ok in
+    let c = every-split isCharacter v vs ok in
     let r = within-range 32 127 v (c .0) in
     let w = within-is 32 127 s at (natAbs v) (omega (arith, st .room)) (byte-at st 0 at (omega arith) (omega arith)) (r .0) (r .1 .0) in
     let z : at + 1 + length vs ≡ at + length (v ∷ vs) = omega arith in
@@ -86,7 +86,7 @@ stands-part s at w st =
 entries-same : (vs : List ℤ) → areCharacters vs ≡ true → map pos (bytesOf vs) ≡ vs
 entries-same [] ok = refl
 entries-same (v ∷ vs) ok =
-    let c = head-of v vs ok in
+    let c = every-split isCharacter v vs ok in
     let r = within-range 32 127 v (c .0) in
     ap (λ (x : ℤ). x ∷ map pos (bytesOf vs)) (r .1 .1) ∙ ap (λ (l : List ℤ). v ∷ l) (entries-same vs (c .1))
 

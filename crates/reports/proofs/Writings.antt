@@ -1,25 +1,21 @@
 -- Writing a report, by what its parts gave.
-use Prim.Native.Nat.{ℕ, zero, suc, _+_, _-_, _≤_, _<_}
-use mathlib.Core.Path.{_≡_, refl, sym, _∙_, ap}
-use mathlib.Core.Bool.{Bool, true, false, _&&_}
-use mathlib.Core.List.{List, [], _∷_, _++_}
+use Prim.Native.Nat.{ℕ, _+_, _≤_, _<_}
+use mathlib.Core.Path.{_≡_, sym, _∙_}
+use mathlib.Core.Bool.{Bool, true, false}
+use mathlib.Core.List.{List}
 use native.Mathlib.Omega.{arith}
 use borrow.Author.Tests.{le-leb, lt-leb}
 use lib.Dec.{leb}
-use lib.ListN.{length, set, length-append, length-map}
+use lib.ListN.{length, length-append, length-map}
 use lib.Seq.{sets}
 use lib.IntN.{ℤ, pos, natAbs}
 use mir.Syntax.{w32}
 use mir.Val.{SFits, toZ, ofZ}
 use mir.Facts.{toZ-ofZ}
 use Rattle.refusals.proofs.Many.{sets-append}
-use Rattle.refusals.specs.declared.Refusal.the-variants.{TooShort}
-use Rattle.refusals.specs.Answers.{Answer, done}
-use Rattle.wire.specs.declared.Written.{Written}
-use Rattle.wire.specs.declared.Written.the-variants.{Next, NotWritten}
-use Rattle.wire.specs.Sending.{writtenOf, roomFor, writeAt, writeIf, afterWrite}
 use Rattle.numbers.specs.Integers.{isNegative}
-use Rattle.characters.specs.Characters.{areCharacters, bytesOf}
+use Rattle.characters.specs.Characters.{areCharacters, bytesOf, lowBytes}
+use Rattle.characters.proofs.Entries.{all-bytes}
 use Rattle.reports.specs.Writing.{spellReportOf, spellReport, isReport, spellString, isString}
 
 module _ (v : ℤ) (f : SFits w32 v) {m : ℕ} (em : m ≡ natAbs (toZ w32 (ofZ w32 v))) where
@@ -54,32 +50,14 @@ module _ (vs : List ℤ) where
     pub all-characters : t ≡ true → areCharacters vs ≡ true
     all-characters e = sym et ∙ e
 
-  long : length (spellString vs) ≡ length vs + 3
+-- ---- the length is laid, and then the characters
+
+module _ (vs : List ℤ) where
+  pub string-long : 3 + length vs ≡ length (spellString vs)
   unfolding spellString
-  long = let a = length-map vs natAbs in omega (arith, length-append (spellReport (pos (length vs))) (bytesOf vs))
+  string-long = let a = length-map vs natAbs in omega (arith, length-append (spellReport (pos (length vs))) (bytesOf vs))
 
-  module _ (l : List ℕ) (at : ℕ) {ok : Bool} (e : ok ≡ true) where
-    pub string-past : length l < at → writtenOf (NotWritten TooShort) ≡ writeIf ok (spellString vs) (length l) at
-    unfolding writtenOf writeIf writeAt roomFor
-    string-past h = let n = long in rw (e, lt-leb (at + length (spellString vs)) (length l) (omega arith))
-
-    pub string-short : at ≤ length l → length l - at < length vs + 3 → writtenOf (NotWritten TooShort) ≡ writeIf ok (spellString vs) (length l) at
-    unfolding writtenOf writeIf writeAt roomFor
-    string-short p h = let n = long in rw (e, lt-leb (at + length (spellString vs)) (length l) (omega arith))
-
-    pub string-done : at ≤ length l → length vs + 3 ≤ length l - at → writtenOf (Next (at + (length vs + 3))) ≡ writeIf ok (spellString vs) (length l) at
-    unfolding writtenOf writeIf writeAt roomFor
-    string-done p h =
-        let n = long in
-        let q : at + length (spellString vs) ≡ at + (length vs + 3) = omega arith in
-        rw (e, le-leb (at + length (spellString vs)) (length l) (omega arith), q)
-
--- the length was laid, and then the characters
-module _ (vs : List ℤ) (l : List ℕ) (at : ℕ) (r : Written) {w o : List ℕ} (ew : w ≡ spellReportOf (length vs) false) (e : writtenOf r ≡ writeAt w (length l) at) (j : o ≡ afterWrite (writtenOf r) w l at) (p : at ≤ length l) (h : length vs + 3 ≤ length l - at) where
-  laid : o ≡ sets l at (spellReportOf (length vs) false)
-  unfolding writeAt roomFor afterWrite
-  laid = rw (e, ew, le-leb (at + 3) (length l) (omega arith)) at j
-
-  pub string-stands : (n : ℕ) {q : List ℕ} → q ≡ sets o (at + 3) (bytesOf vs) → q ≡ afterWrite (writtenOf (Next n)) (spellString vs) l at
-  unfolding writtenOf afterWrite spellString
-  string-stands n k = k ∙ ap (λ (x : List ℕ). sets x (at + 3) (bytesOf vs)) laid ∙ sets-append (spellReportOf (length vs) false) (bytesOf vs) l at
+  pub string-laid : (l : List ℕ) (at : ℕ) {w m o : List ℕ} → areCharacters vs ≡ true → w ≡ spellReportOf (length vs) false → m ≡ sets l at w → o ≡ sets m (at + 3) (lowBytes vs) → o ≡ sets l at (spellString vs)
+  unfolding spellString
+  string-laid l at {w} {m} {o} h ew em eo =
+      eo ∙ rw (em, ew, all-bytes 32 vs h) (sets-append (spellReportOf (length vs) false) (bytesOf vs) l at)

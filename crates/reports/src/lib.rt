@@ -7,9 +7,9 @@ ghost use lib.ListN.{length};
 ghost use lib.Seq.{sets};
 ghost use lib.IntN.{natAbs};
 ghost use Rattle.wire.specs.Taking.{byteOf};
-ghost use Rattle.wire.specs.Sending.{afterWrite, writtenOf};
+ghost use Rattle.wire.specs.Sending.{writeAt, afterWrite, writtenOf};
 ghost use Rattle.numbers.specs.Integers.{integerOf};
-ghost use Rattle.characters.specs.Characters.{areCharacters, bytesOf};
+ghost use Rattle.characters.specs.Characters.{areCharacters};
 ghost use Rattle.reports.specs.Reading.{within, reportValue, reportFrom, reportAt, endOf, charactersEnd, stringOf, stringAt, afterString, entriesAt};
 ghost use Rattle.reports.specs.Writing.{spellReportOf, spellReport, writeReport, spellString, writeString};
 use numbers::CountRead;
@@ -166,16 +166,21 @@ pub fn write_integer(v: i32, out: &mut [u8], at: usize) -> Written
     wire::lay(&bytes, out, at)
 }
 
-// The entries as bytes into `out` from `at` on.
-fn lay_characters(list: &[i32], out: &mut [u8], at: usize)
-    requires { ⌜ (areCharacters (now list) ≡ true) × (at + length (now list) ≤ length (now out)) ⌝ }
-    ensures { λ r. ⌜ now (out .exit) ≡ sets (now (out .entry)) at (bytesOf (now (list .entry))) ⌝ }
+// The length and the characters behind it, from `at` on: all of them, or 7 and none.
+fn lay_string(list: &[i32], out: &mut [u8], at: usize) -> Written
+    requires { ⌜ (areCharacters (now list) ≡ true) × (length (now list) ≤ 256) ⌝ }
+    ensures { λ r. ⌜ (writtenOf r ≡ writeAt (spellString (now (list .entry))) (length (now (out .entry))) at) × (now (out .exit) ≡ afterWrite (writtenOf r) (spellString (now (list .entry))) (now (out .entry)) at) ⌝ }
 {
-    let mut i = 0;
-    while i < list.len() {
-        let to = at + i;
-        out[to] = characters::byte_of(list[i]);
-        i = i + 1;
+    let count = list.len();
+    match wire::room_for(3 + count, out.len(), at) {
+        Written::Next(next) => {
+            let length = spell(count as u32, false);
+            wire::copy(&length, out, at);
+            let from = at + 3;
+            characters::lay(list, out, from);
+            Written::Next(next)
+        }
+        Written::NotWritten(e) => Written::NotWritten(e),
     }
 }
 
@@ -183,25 +188,11 @@ fn lay_characters(list: &[i32], out: &mut [u8], at: usize)
 pub fn write_string(list: &[i32], out: &mut [u8], at: usize) -> Written
     ensures { λ r. ⌜ (writtenOf r ≡ writeString (now (list .entry)) (length (now (out .entry))) at) × (now (out .exit) ≡ afterWrite (writtenOf r) (spellString (now (list .entry))) (now (out .entry)) at) ⌝ }
 {
-    let count = list.len();
-    let room = out.len();
-    if count > MOST_CHARACTERS {
+    if list.len() > MOST_CHARACTERS {
         return Written::NotWritten(Refusal::NotValid);
     }
     if characters::are_characters(list) {
-        if at > room {
-            return Written::NotWritten(Refusal::TooShort);
-        }
-        let size = count + 3;
-        if size > room - at {
-            return Written::NotWritten(Refusal::TooShort);
-        }
-        let length = spell(count as u32, false);
-        wire::lay(&length, out, at);
-        let from = at + 3;
-        lay_characters(list, out, from);
-        let next = at + size;
-        return Written::Next(next);
+        return lay_string(list, out, at);
     }
     Written::NotWritten(Refusal::NotValid)
 }

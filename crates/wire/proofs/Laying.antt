@@ -1,24 +1,26 @@
 -- Laying bytes: what the loop keeps, and each way out of it.
-use Prim.Native.Nat.{ℕ, _+_, _-_, _*_, _≤_, _<_}
+use Prim.Native.Nat.{ℕ, _+_, _-_, _*_, _^_, _≤_, _<_}
 use mathlib.Core.Path.{_≡_, refl, sym, _∙_, ap}
 use mathlib.Core.Bool.{Bool, true, false}
 use mathlib.Core.List.{List, [], _∷_, _++_}
 use native.Mathlib.Omega.{arith}
 use native.Mathlib.Numerals.{add-one}
-use borrow.Author.Tests.{le-leb, lt-leb}
+use borrow.Author.Tests.{le-leb, lt-leb, leb-true, leb-false}
+use lib.Dec.{leb}
 use lib.ListN.{length, getD, drop, set, length-set, length-append, drop-of-length-le}
 use lib.Seq.{sets, drop-cons}
 use borrow.Author.Needs.{fits-under}
 use mir.Syntax.{w64}
 use mir.Val.{Fits}
 use Rattle.memory.specs.declared.Remembered.{Remembered}
-use Rattle.refusals.specs.Answers.{Answer}
+use Rattle.refusals.specs.Answers.{Answer, number}
+use Rattle.refusals.proofs.Cases.{by-pick}
 use Rattle.refusals.proofs.Many.{past-end, sets-append}
 use Rattle.refusals.specs.declared.Refusal.{Refusal}
 use Rattle.refusals.specs.declared.Refusal.the-variants.{TooShort, NotValid}
 use Rattle.wire.specs.declared.Written.{Written}
 use Rattle.wire.specs.declared.Written.the-variants.{Next, NotWritten}
-use Rattle.wire.specs.Sending.{sent, isPlain, writtenOf, roomFor, writeAt, writeIf, afterWrite, poured}
+use Rattle.wire.specs.Sending.{sent, isPlain, writtenOf, roomFor, inRoom, writeAt, writeIf, afterWrite, poured}
 
 -- what is left, laid from here, ends where the whole ends
 pub record Laying (w out₀ out : List ℕ) (at i : ℕ) : Type 0 where
@@ -59,6 +61,18 @@ module _ (size room at : ℕ) where
   unfolding writtenOf roomFor
   has-room p h = rw (le-leb (at + size) room (omega arith))
 
+-- where there is an end there is room, and a place before it is a number
+found-room : (size room at : ℕ) {r : Written} {n : ℕ} → writtenOf r ≡ roomFor size room at → r ≡ Next n → at + size ≤ room
+unfolding writtenOf roomFor number
+found-room size room at {r} {n} j g = go (leb (at + size) room) refl
+  where
+    go : (b : Bool) → leb (at + size) room ≡ b → at + size ≤ room
+    go true e = leb-true (at + size) room e
+    go false e = let k : _≡_ {A = ℕ} 0 7 = ap number (rw (e, g) at j) in absurd (omega (arith, k))
+
+pub before-end : (k m at : ℕ) (l : List ℕ) {r : Written} {n : ℕ} → writtenOf r ≡ roomFor (k + m) (length l) at → r ≡ Next n → length l * 1 < 2 ^ 63 → Fits w64 (at + k)
+before-end k m at l j g f = fits-under w64 (at + k) (2 ^ 63) (omega (arith, found-room (k + m) (length l) at j g)) tt
+
 -- the answers, by what `room_for` gave
 module _ (w l : List ℕ) (at : ℕ) where
   pub written-so : (size : ℕ) {r q : Written} → size ≡ length w → writtenOf r ≡ roomFor size (length l) at → r ≡ q → writtenOf q ≡ writeAt w (length l) at
@@ -91,13 +105,56 @@ sent-same kept w e = ap (sent kept) e
 
 -- ---- as far as there is room
 
-pub poured-past : (l w : List ℕ) (at : ℕ) → length l ≤ at → l ≡ sets l at w
-poured-past l w at h = sym (past-end l at w h)
+module _ (size room at : ℕ) where
+  pub past-room : room < at → 0 ≡ inRoom size room at
+  unfolding inRoom
+  past-room h = by-pick (λ (c : ℕ). 0 ≡ c) (leb size (room - at)) size (room - at) (λ e. omega (arith, h, leb-true size (room - at) e)) (λ e. omega (arith, h))
 
-pub poured-full : (w out₀ out : List ℕ) (at i : ℕ) → Laying w out₀ out at i → at < length out₀ → length out₀ - at ≤ i → out ≡ sets out₀ at w
-poured-full w out₀ out at i f h k = sym (past-end out (at + i) (drop i w) (omega (arith, f .long))) ∙ f .whole
+  pub less-room : at ≤ room → room - at < size → room - at ≡ inRoom size room at
+  unfolding inRoom
+  less-room p h = rw (lt-leb size (room - at) h)
 
-pub ruleset pourings = (laying-none, laying-more, laying-end, poured-past, poured-full)
+  pub enough-room : at ≤ room → size ≤ room - at → size ≡ inRoom size room at
+  unfolding inRoom
+  enough-room p h = rw (le-leb size (room - at) h)
+
+  in-size : inRoom size room at ≤ size
+  unfolding inRoom
+  in-size = by-pick (λ (c : ℕ). c ≤ size) (leb size (room - at)) size (room - at) (λ e. omega arith) (λ e. omega (arith, leb-false size (room - at) e))
+
+  in-free : inRoom size room at ≤ room - at
+  unfolding inRoom
+  in-free = by-pick (λ (c : ℕ). c ≤ room - at) (leb size (room - at)) size (room - at) (λ e. leb-true size (room - at) e) (λ e. omega arith)
+
+pub ruleset in-rooms = (past-room, less-room, enough-room)
+
+-- so many of the bytes w have room
+pub record Copying (w out₀ out : List ℕ) (at count i : ℕ) : Type 0 where
+  pub few : count ≤ length w
+  pub room : count ≤ length out₀ - at
+  pub all : inRoom (length w) (length out₀) at ≡ count
+  pub laying : Laying w out₀ out at i
+
+pub copying-none : (w out : List ℕ) (at : ℕ) {count : ℕ} → count ≡ inRoom (length w) (length out) at → Copying w out out at count 0
+copying-none w out at e =
+    record { few = rw e (in-size (length w) (length out) at); room = rw e (in-free (length w) (length out) at); all = sym e; laying = laying-none w out at }
+
+pub copying-more : (w out₀ out : List ℕ) (at count i : ℕ) → Copying w out₀ out at count i → i < count → Copying w out₀ (set out (at + i) (getD w i 0)) at count (i + 1)
+copying-more w out₀ out at count i f h =
+    record { few = f .few; room = f .room; all = f .all; laying = laying-more w out₀ out at i (f .laying) (omega (arith, f .few)) }
+
+-- where room was wanting, what is left lies behind the end
+pub copying-end : (w out₀ out : List ℕ) (at count i : ℕ) → Copying w out₀ out at count i → count ≤ i → out ≡ sets out₀ at w
+unfolding inRoom
+copying-end w out₀ out at count i f h =
+    let free = length out₀ - at in
+    let f′ = f .laying in
+    by-pick (λ (c : ℕ). c ≤ i → out ≡ sets out₀ at w) (leb (length w) free) (length w) free
+    (λ e. λ k. laying-end w out₀ out at i f′ k)
+    (λ e. λ k. sym (past-end out (at + i) (drop i w) (omega (arith, k, f′ .long))) ∙ f′ .whole)
+    (rw (f .all) h)
+
+pub ruleset copyings = (copying-none, copying-more, copying-end)
 
 -- ---- byte by byte
 

@@ -5,7 +5,7 @@ ghost use mathlib.Core.List.{[], _∷_};
 ghost use lib.ListN.{length};
 ghost use lib.Seq.{sets};
 ghost use Rattle.wire.specs.Taking.{byteAt, pairAt, byteOf, isItself, threeAhead};
-ghost use Rattle.wire.specs.Sending.{sent, isPlain, roomFor, writeAt, afterWrite, writtenOf};
+ghost use Rattle.wire.specs.Sending.{sent, isPlain, roomFor, inRoom, writeAt, afterWrite, writtenOf};
 use memory::Remembered;
 use refusals::Refusal;
 
@@ -102,19 +102,27 @@ pub fn room_for(size: usize, room: usize, at: usize) -> Written
     Written::Next(next)
 }
 
+// How many of so many bytes from `at` on have room.
+pub fn in_room(size: usize, room: usize, at: usize) -> usize
+    ensures { λ r. ⌜ r ≡ inRoom size room at ⌝ }
+{
+    if at > room {
+        return 0;
+    }
+    let free = room - at;
+    if size > free {
+        return free;
+    }
+    size
+}
+
 // The bytes `w` into `out` from `at` on, as far as there is room.
 pub fn copy(w: &[u8], out: &mut [u8], at: usize)
     ensures { λ _. ⌜ now (out .exit) ≡ sets (now (out .entry)) at (now (w .entry)) ⌝ }
 {
-    let room = out.len();
-    if at >= room {
-        return;
-    }
+    let count = in_room(w.len(), out.len(), at);
     let mut i = 0;
-    while i < w.len() {
-        if room - at <= i {
-            return;
-        }
+    while i < count {
         let to = at + i;
         out[to] = w[i];
         i = i + 1;

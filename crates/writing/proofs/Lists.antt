@@ -1,5 +1,5 @@
 -- The entries of a list, poured one a turn, and the whole command behind them.
-use Prim.Native.Nat.{ℕ, zero, suc, _+_, _*_, _%_, _≤_, _<_}
+use Prim.Native.Nat.{ℕ, _+_, _*_, _≤_, _<_}
 use mathlib.Core.Path.{_≡_, refl, sym, _∙_, ap}
 use mathlib.Core.Bool.{Bool, true, _&&_}
 use mathlib.Core.List.{List, [], _∷_, _++_, append-assoc}
@@ -7,19 +7,20 @@ use native.Mathlib.Omega.{arith}
 use native.Mathlib.Numerals.{add-one}
 use borrow.Author.Tests.{le-leb, leb-true}
 use lib.Dec.{leb}
-use lib.ListN.{length, getD, take, drop, set, length-append, drop-of-length-le}
+use lib.ListN.{length, getD, take, drop, length-append, length-map, drop-of-length-le}
 use lib.Seq.{sets, sets-eq, take-append-seam, length-take-le, drop-cons, length-sets}
 use lib.IntN.{ℤ, pos, natAbs}
 use Rattle.memory.specs.declared.Remembered.{Remembered}
 use Rattle.memory.specs.declared.Point.{Point}
 use Rattle.memory.specs.Memory.{inside, remember}
-use Rattle.refusals.specs.Answers.{Answer, every}
+use Rattle.refusals.specs.Answers.{Answer}
 use Rattle.refusals.proofs.Cases.{and-left, and-right}
-use Rattle.refusals.proofs.Many.{sets-append}
+use Rattle.refusals.proofs.Many.{sets-append, every-split}
 use Rattle.wire.specs.Sending.{sent, isPlain, poured, writtenOf, roomFor, writeAt, afterWrite}
 use Rattle.wire.specs.declared.Written.the-variants.{Next}
-use Rattle.wire.proofs.Laying.{Laying, laying-none, laying-more, laying-end, sent-plain}
-use Rattle.characters.proofs.Entries.{a-byte}
+use Rattle.wire.proofs.Laying.{sent-plain}
+use Rattle.characters.specs.Characters.{bytesOf, lowBytes}
+use Rattle.characters.proofs.Entries.{all-bytes}
 use Rattle.numbers.specs.Integers.{spell}
 use Rattle.numbers.proofs.Shortest.{spell-few}
 use Rattle.parameters.specs.declared.Entry.{Entry}
@@ -28,7 +29,7 @@ use Rattle.parameters.specs.declared.Parameters.{Parameters}
 use Rattle.parameters.specs.Shapes.{Tail, none, counted, valuesOf, tailOf}
 use Rattle.commands.specs.declared.Command.{Command}
 use Rattle.writable.specs.Writable.{isKind, isEntry, areEntries, areValues, isTail, fits, isCommand}
-use Rattle.writing.specs.Writing.{spellEntry, spellEntries, spellValues, afterValues, spellTail, spellParameters, spellCommand, Poured, bytesOf}
+use Rattle.writing.specs.Writing.{spellEntry, spellEntries, spellValues, afterValues, spellTail, spellParameters, spellCommand, Poured}
 use Rattle.writing.proofs.Pouring.{poured-both}
 
 -- ---- entries
@@ -46,10 +47,6 @@ entering-none e kept list out at h =
     let z : at + 0 ≡ at = omega arith in
     record { upto = omega arith; ok = h; few = omega arith; long = refl; size = omega arith; whole = ap (λ (k : ℕ). sets out k (spellEntries e kept list)) z }
 
-split : (e : Entry) (v : ℤ) (vs : List ℤ) → areEntries e (v ∷ vs) ≡ true → (isEntry e v ≡ true) × (areEntries e vs ≡ true)
-unfolding every
-split e v vs h = (and-left (isEntry e v) (areEntries e vs) h, and-right (isEntry e v) (areEntries e vs) h)
-
 spell-cons : (e : Entry) (kept : Remembered) (v : ℤ) (vs : List ℤ) → spellEntries e kept (v ∷ vs) ≡ spellEntry e kept v ++ spellEntries e kept vs
 unfolding spellEntries
 spell-cons e kept v vs = refl
@@ -60,7 +57,7 @@ module _ (e : Entry) (kept : Remembered) (list : List ℤ) (out₀ out : List �
     cons = drop-cons list i (pos 0) h ∙ rw (ev, add-one i)
 
     oks : (isEntry e v ≡ true) × (areEntries e (drop (i + 1) list) ≡ true)
-    oks = split e v (drop (i + 1) list) (rw cons at (f .ok))
+    oks = every-split (isEntry e) v (drop (i + 1) list) (rw cons at (f .ok))
 
     pub entry-ok : (x : ℤ) → x ≡ v → isEntry e x ≡ true
     entry-ok x j = ap (isEntry e) j ∙ oks .0
@@ -100,38 +97,18 @@ module _ (e : Entry) (kept : Remembered) (list : List ℤ) (out₀ out : List �
 
 -- ---- characters that are sent as themselves
 
-bytes-long : (list : List ℤ) → length (bytesOf list) ≡ length list
-bytes-long [] = refl
-bytes-long (v ∷ list) = ap suc (bytes-long list)
-
-byte-at : (list : List ℤ) (i : ℕ) → getD (bytesOf list) i 0 ≡ natAbs (getD list i (pos 0)) % 256
-byte-at [] i = refl
-byte-at (v ∷ list) zero = refl
-byte-at (v ∷ list) (suc i) = byte-at list i
-
-bytes-spelled : (kept : Remembered) (list : List ℤ) → isPlain kept ≡ true → areEntries ACharacter list ≡ true → bytesOf list ≡ spellEntries ACharacter kept list
+characters-spelled : (kept : Remembered) (list : List ℤ) → isPlain kept ≡ true → bytesOf list ≡ spellEntries ACharacter kept list
 unfolding spellEntries spellEntry
-bytes-spelled kept [] p h = refl
-bytes-spelled kept (v ∷ list) p h =
-    let ok = split ACharacter v list h in
-    let one : (natAbs v % 256) ∷ [] ≡ sent kept (natAbs v ∷ []) = ap (λ (b : ℕ). b ∷ []) (a-byte v (ok .0)) ∙ sym (sent-plain kept (natAbs v ∷ []) p) in
-    ap (λ (w : List ℕ). w ++ bytesOf list) one ∙ ap (λ (w : List ℕ). sent kept (natAbs v ∷ []) ++ w) (bytes-spelled kept list p (ok .1))
+characters-spelled kept [] p = refl
+characters-spelled kept (v ∷ list) p =
+    ap (λ (w : List ℕ). w ++ bytesOf list) (sym (sent-plain kept (natAbs v ∷ []) p))
+    ∙ ap (λ (w : List ℕ). sent kept (natAbs v ∷ []) ++ w) (characters-spelled kept list p)
 
-module _ (list : List ℤ) (out₀ out : List ℕ) (at i : ℕ) (f : Laying (bytesOf list) out₀ out at i) where
-  pub byte-laid : (v x : ℤ) {b : ℕ} → i < length list → v ≡ getD list i (pos 0) → b ≡ natAbs x % 256 → x ≡ v → Laying (bytesOf list) out₀ (set out (at + i) b) at (i + 1)
-  byte-laid v x {b} h ev eb j =
-      let e : b ≡ getD (bytesOf list) i 0 = eb ∙ ap (λ (y : ℤ). natAbs y % 256) (j ∙ ev) ∙ sym (byte-at list i) in
-      rw (← e) at (laying-more (bytesOf list) out₀ out at i f (omega (arith, bytes-long list)))
-
-  pub bytes-laid : length list ≤ i → out ≡ sets out₀ at (bytesOf list)
-  bytes-laid h = laying-end (bytesOf list) out₀ out at i f (omega (arith, bytes-long list))
-
-pub ruleset layings = (laying-none, byte-laid, bytes-laid)
-
-pub characters-laid : (kept : Remembered) (list : List ℤ) (l o : List ℕ) (at : ℕ) {t : Bool} → t ≡ isPlain kept → t ≡ true → areEntries ACharacter list ≡ true → length list ≤ 256 → o ≡ sets l at (bytesOf list) → Poured (spellEntries ACharacter kept list) 768 l o at (length list)
+pub characters-laid : (kept : Remembered) (list : List ℤ) (l o : List ℕ) (at : ℕ) {t : Bool} → t ≡ isPlain kept → t ≡ true → areEntries ACharacter list ≡ true → length list ≤ 256 → o ≡ sets l at (lowBytes list) → Poured (spellEntries ACharacter kept list) 768 l o at (length list)
 characters-laid kept list l o at e h ok few j =
-    let s = bytes-spelled kept list (sym e ∙ h) ok in
-    record { size = sym (bytes-long list) ∙ ap length s; stand = j ∙ ap (λ (y : List ℕ). sets l at y) s; few = omega arith }
+    let s = characters-spelled kept list (sym e ∙ h) in
+    let b = all-bytes 32 list ok in
+    record { size = sym (length-map list natAbs) ∙ ap length s; stand = j ∙ ap (λ (y : List ℕ). sets l at y) (b ∙ s); few = omega arith }
 
 pub all-entries : (e : Entry) (list : List ℤ) {k : Entry} → areEntries e list ≡ true → e ≡ k → areEntries k list ≡ true
 all-entries e list h g = rw g at h

@@ -10,9 +10,8 @@ use lib.IntN.{ℤ, natAbs}
 use Rattle.memory.specs.declared.Point.{Point}
 use Rattle.memory.specs.declared.Remembered.{Remembered}
 use Rattle.memory.specs.Memory.{inside, remember}
-use Rattle.refusals.specs.Answers.{every}
 use Rattle.refusals.proofs.Cases.{and-left, and-right}
-use Rattle.refusals.proofs.Many.{sets-append}
+use Rattle.refusals.proofs.Many.{sets-append, every-split}
 use Rattle.wire.specs.Sending.{sent, poured}
 use Rattle.numbers.specs.Integers.{spell, isInteger}
 use Rattle.numbers.proofs.Shortest.{spell-few}
@@ -62,7 +61,7 @@ module _ (kept : Remembered) (e : Entry) (v x : ℤ) (ok : isEntry e v ≡ true)
   unfolding spellEntry
   character-poured {b} g eb er eo i =
       let c : isCharacter v ≡ true = rw g at ok in
-      let q : b ≡ natAbs v = eb ∙ ap (λ (y : ℤ). natAbs y % 256) i ∙ a-byte v c in
+      let q : b ≡ natAbs v = eb ∙ ap (λ (y : ℤ). natAbs y % 256) i ∙ a-byte 32 v c in
       let n : r ≡ length (sent kept (natAbs v ∷ [])) = er ∙ ap (λ (y : ℕ). length (sent kept (y ∷ []))) q in
       rw g (record { size = n; stand = eo ∙ ap (λ (y : ℕ). sets l at (sent kept (y ∷ []))) q; few = omega (arith, n, sent-long kept (natAbs v ∷ [])) })
 
@@ -93,36 +92,32 @@ corners-poured kept p q l m o at n r f e g =
 
 -- ---- the values of each kind
 
-every-two : {A : Type 0} (ok : A → Bool) (x : A) (xs : List A) → every ok (x ∷ xs) ≡ true → (ok x ≡ true) × (every ok xs ≡ true)
-unfolding every
-every-two ok x xs e = (and-left (ok x) (every ok xs) e, and-right (ok x) (every ok xs) e)
-
 module _ (ps : Parameters) (h : areValues (valuesOf ps) ≡ true) where
   pub single-ok : (x : ℤ) {v : ℤ} → ps ≡ Single v → x ≡ v → isEntry AnInteger x ≡ true
-  single-ok x {v} g i = rw i (every-two isValue (number AnInteger v) [] (rw g at h) .0)
+  single-ok x {v} g i = rw i (every-split isValue (number AnInteger v) [] (rw g at h) .0)
 
   pub text-number-ok : (x : ℤ) {v : ℤ} → ps ≡ NumberedText v → x ≡ v → isEntry AnInteger x ≡ true
-  text-number-ok x {v} g i = rw i (every-two isValue (number AnInteger v) [] (rw g at h) .0)
+  text-number-ok x {v} g i = rw i (every-split isValue (number AnInteger v) [] (rw g at h) .0)
 
   pub array-number-ok : (x : ℤ) {v : ℤ} → ps ≡ NumberedArray v → x ≡ v → isEntry AnInteger x ≡ true
-  array-number-ok x {v} g i = rw i (every-two isValue (number AnInteger v) [] (rw g at h) .0)
+  array-number-ok x {v} g i = rw i (every-split isValue (number AnInteger v) [] (rw g at h) .0)
 
   pub double-first : (x : ℤ) {v w : ℤ} → ps ≡ Double v w → x ≡ v → isEntry AnInteger x ≡ true
-  double-first x {v} {w} g i = rw i (every-two isValue (number AnInteger v) (number AnInteger w ∷ []) (rw g at h) .0)
+  double-first x {v} {w} g i = rw i (every-split isValue (number AnInteger v) (number AnInteger w ∷ []) (rw g at h) .0)
 
   pub double-second : (y : ℤ) {v w : ℤ} → ps ≡ Double v w → y ≡ w → isEntry AnInteger y ≡ true
   double-second y {v} {w} g j =
-      rw j (every-two isValue (number AnInteger w) [] (every-two isValue (number AnInteger v) (number AnInteger w ∷ []) (rw g at h) .1) .0)
+      rw j (every-split isValue (number AnInteger w) [] (every-split isValue (number AnInteger v) (number AnInteger w ∷ []) (rw g at h) .1) .0)
 
   pub letters-first : (x : ℤ) {v w : ℤ} → ps ≡ Letters v w → x ≡ v → isEntry ACharacter x ≡ true
-  letters-first x {v} {w} g i = rw i (every-two isValue (number ACharacter v) (number ACharacter w ∷ []) (rw g at h) .0)
+  letters-first x {v} {w} g i = rw i (every-split isValue (number ACharacter v) (number ACharacter w ∷ []) (rw g at h) .0)
 
   pub letters-second : (y : ℤ) {v w : ℤ} → ps ≡ Letters v w → y ≡ w → isEntry ACharacter y ≡ true
   letters-second y {v} {w} g j =
-      rw j (every-two isValue (number ACharacter w) [] (every-two isValue (number ACharacter v) (number ACharacter w ∷ []) (rw g at h) .1) .0)
+      rw j (every-split isValue (number ACharacter w) [] (every-split isValue (number ACharacter v) (number ACharacter w ∷ []) (rw g at h) .1) .0)
 
   scale-both : {r : Real} → ps ≡ Scale r → isInteger (r .mantissa) && isInteger (r .exponent) ≡ true
-  scale-both {r} g = every-two isValue (scaled (r .mantissa) (r .exponent)) [] (rw g at h) .0
+  scale-both {r} g = every-split isValue (scaled (r .mantissa) (r .exponent)) [] (rw g at h) .0
 
   pub scale-first : (x : ℤ) {r : Real} → ps ≡ Scale r → x ≡ r .mantissa → isEntry AnInteger x ≡ true
   scale-first x {r} g i = rw i (and-left (isInteger (r .mantissa)) (isInteger (r .exponent)) (scale-both g))
@@ -131,26 +126,26 @@ module _ (ps : Parameters) (h : areValues (valuesOf ps) ≡ true) where
   scale-second y {r} g j = rw j (and-right (isInteger (r .mantissa)) (isInteger (r .exponent)) (scale-both g))
 
   triple-rest : {u v w : ℤ} → ps ≡ Triple u v w → areValues (number AnInteger v ∷ number AnInteger w ∷ []) ≡ true
-  triple-rest {u} {v} {w} g = every-two isValue (number AnInteger u) (number AnInteger v ∷ number AnInteger w ∷ []) (rw g at h) .1
+  triple-rest {u} {v} {w} g = every-split isValue (number AnInteger u) (number AnInteger v ∷ number AnInteger w ∷ []) (rw g at h) .1
 
   pub triple-first : (x : ℤ) {u v w : ℤ} → ps ≡ Triple u v w → x ≡ u → isEntry AnInteger x ≡ true
-  triple-first x {u} {v} {w} g i = rw i (every-two isValue (number AnInteger u) (number AnInteger v ∷ number AnInteger w ∷ []) (rw g at h) .0)
+  triple-first x {u} {v} {w} g i = rw i (every-split isValue (number AnInteger u) (number AnInteger v ∷ number AnInteger w ∷ []) (rw g at h) .0)
 
   pub triple-second : (y : ℤ) {u v w : ℤ} → ps ≡ Triple u v w → y ≡ v → isEntry AnInteger y ≡ true
-  triple-second y {u} {v} {w} g j = rw j (every-two isValue (number AnInteger v) (number AnInteger w ∷ []) (triple-rest g) .0)
+  triple-second y {u} {v} {w} g j = rw j (every-split isValue (number AnInteger v) (number AnInteger w ∷ []) (triple-rest g) .0)
 
   pub triple-third : (z : ℤ) {u v w : ℤ} → ps ≡ Triple u v w → z ≡ w → isEntry AnInteger z ≡ true
   triple-third z {u} {v} {w} g k =
-      rw k (every-two isValue (number AnInteger w) [] (every-two isValue (number AnInteger v) (number AnInteger w ∷ []) (triple-rest g) .1) .0)
+      rw k (every-split isValue (number AnInteger w) [] (every-split isValue (number AnInteger v) (number AnInteger w ∷ []) (triple-rest g) .1) .0)
 
   pub point-ok : (p : Point) → ps ≡ OnePoint p → inside p ≡ true
-  point-ok p g = every-two isValue (place p) [] (rw g at h) .0
+  point-ok p g = every-split isValue (place p) [] (rw g at h) .0
 
   pub corners-first : (p : Point) {q : Point} → ps ≡ Corners p q → inside p ≡ true
-  corners-first p {q} g = every-two isValue (place p) (place q ∷ []) (rw g at h) .0
+  corners-first p {q} g = every-split isValue (place p) (place q ∷ []) (rw g at h) .0
 
   pub corners-second : (q : Point) {p : Point} → ps ≡ Corners p q → inside q ≡ true
-  corners-second q {p} g = every-two isValue (place q) [] (every-two isValue (place p) (place q ∷ []) (rw g at h) .1) .0
+  corners-second q {p} g = every-split isValue (place q) [] (every-split isValue (place p) (place q ∷ []) (rw g at h) .1) .0
 
 -- the bytes of the values of each kind
 module _ (kept : Remembered) (ps : Parameters) (l o : List ℕ) (at r : ℕ) where

@@ -1,8 +1,8 @@
 -- The bytes of a command. "Writing takes the whole lent list as the entries of a string or array, and for other commands does not look at
 -- it. It gives 8 for .., then 7."
-use Prim.Native.Nat.{ℕ, _%_, _≤_}
+use Prim.Native.Nat.{ℕ, _≤_}
 use mathlib.Core.Path.{_≡_}
-use mathlib.Core.List.{List, [], _∷_, _++_, map}
+use mathlib.Core.List.{List, [], _∷_, _++_}
 use lib.ListN.{length}
 use lib.Seq.{sets}
 use lib.IntN.{ℤ, pos, natAbs}
@@ -68,7 +68,3 @@ pub record Poured (w : List ℕ) (most : ℕ) (l o : List ℕ) (at r : ℕ) : Ty
   pub size : r ≡ length w
   pub stand : o ≡ sets l at w
   pub few : r ≤ most
-
--- entries as bytes, each as it is where all of them are characters
-abbrev pub bytesOf : List ℤ → List ℕ
-bytesOf es = map (λ v. natAbs v % 256) es

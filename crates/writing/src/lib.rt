@@ -10,7 +10,7 @@ ghost use Rattle.wire.specs.Sending.{sent, writtenOf, writeAt, afterWrite};
 ghost use Rattle.points.specs.Writing.{spellPoint};
 ghost use Rattle.parameters.specs.Shapes.{counted, valuesOf, tailOf};
 ghost use Rattle.writable.specs.Writable.{isEntry, areEntries, areValues, isTail, fits};
-ghost use Rattle.writing.specs.Writing.{spellEntry, spellEntries, spellValues, afterValues, spellTail, spellCommand, writeFitting, writeCommand, Poured, bytesOf};
+ghost use Rattle.writing.specs.Writing.{spellEntry, spellEntries, spellValues, afterValues, spellTail, spellCommand, writeFitting, writeCommand, Poured};
 use commands::Command;
 use memory::Point;
 use memory::Remembered;
@@ -111,30 +111,14 @@ fn pour_entries(kept: Remembered, entry: Entry, list: &[i32], out: &mut [u8], at
     n
 }
 
-// Characters as they are, where all of them have room: nothing is asked between one and the next.
-fn lay_characters(list: &[i32], out: &mut [u8], at: usize)
-    requires { ⌜ at + length (now list) ≤ length (now out) ⌝ }
-    ensures { λ r. ⌜ now (out .exit) ≡ sets (now (out .entry)) at (bytesOf (now (list .entry))) ⌝ }
-{
-    let mut i = 0;
-    while i < list.len() {
-        let v = list[i];
-        let to = at + i;
-        out[to] = characters::byte_of(v);
-        i = i + 1;
-    }
-}
-
+// Bytes that are sent as themselves are laid with nothing asked between one and the next.
 fn pour_characters(kept: Remembered, list: &[i32], out: &mut [u8], at: usize) -> usize
     requires { ⌜ ((areEntries Entry.ACharacter (now list) ≡ true) × (length (now list) ≤ 256)) × (at ≤ 64) ⌝ }
     ensures { λ r. ⌜ Poured (spellEntries Entry.ACharacter kept (now (list .entry))) 768 (now (out .entry)) (now (out .exit)) at r ⌝ }
 {
-    let end = at + list.len();
     if wire::is_plain(kept) {
-        if end <= out.len() {
-            lay_characters(list, out, at);
-            return list.len();
-        }
+        characters::lay(list, out, at);
+        return list.len();
     }
     pour_entries(kept, Entry::ACharacter, list, out, at)
 }

@@ -282,7 +282,7 @@ walk-copy-requires : (t : ℕ) → walk-lts.Need-copy-requires (
 ) (walk-at t) walk.Post walk-Inv-loop walk-μ-loop
 walk-copy-requires t c κs = search needs
 
-walk-sub-behind : (t : ℕ) → walk-lts.Need-sub-behind (
+walk-sub-going : (t : ℕ) → walk-lts.Need-sub-going (
   piece-at-reads.Asked,
   piece-at-reads.Learnt,
   copy-reads.Asked,
@@ -290,9 +290,9 @@ walk-sub-behind : (t : ℕ) → walk-lts.Need-sub-behind (
   enter-below t,
   enter.Post,
 ) (walk-at t) walk.Post walk-Inv-loop walk-μ-loop
-walk-sub-behind t c = search (needs, copied-from)
+walk-sub-going t c = search (needs, copied-from)
 
-walk-add-behind : (t : ℕ) → walk-lts.Need-add-behind (
+walk-add-going : (t : ℕ) → walk-lts.Need-add-going (
   piece-at-reads.Asked,
   piece-at-reads.Learnt,
   copy-reads.Asked,
@@ -300,7 +300,7 @@ walk-add-behind : (t : ℕ) → walk-lts.Need-add-behind (
   enter-below t,
   enter.Post,
 ) (walk-at t) walk.Post walk-Inv-loop walk-μ-loop
-walk-add-behind t c = search (needs, copied-counts)
+walk-add-going t c = search (needs, copied-counts)
 
 walk-loop-less : (t : ℕ) → walk-lts.Need-loop-less (
   piece-at-reads.Asked,
@@ -449,8 +449,8 @@ pub +enter+walk-spec : {M : Type 1} → statement M
     (walk-part-copy-start t)
     (walk-part-copy-end t)
     (walk-copy-requires t)
-    (walk-sub-behind t)
-    (walk-add-behind t)
+    (walk-sub-going t)
+    (walk-add-going t)
     (walk-loop-less t)
     (walk-loop-again t)
     (walk-enum-known-number t)

@@ -3,14 +3,11 @@ use borrow.Author.Needs.{needs}
 use Rattle.writing.proofs.pour_characters.Statement.{statement}
 use Rattle.writing.proofs.pour_characters.Tie as tie
 
-add-end : tie.Need-add-end
-add-end c = search needs
-
 is-plain-requires : tie.Need-is-plain-requires
 is-plain-requires c κs = search needs
 
-lay-characters-requires : tie.Need-lay-characters-requires
-lay-characters-requires c κs = search needs
+lay-requires : tie.Need-lay-requires
+lay-requires c κs = search needs
 
 same-length : tie.Need-same-length
 same-length c = search needs
@@ -31,9 +28,8 @@ pub pour-characters-spec : {M : Type 1} → statement M
 pour-characters-spec =
     tie.close
     (tie.spec
-    add-end
     is-plain-requires
-    lay-characters-requires
+    lay-requires
     same-length
     returns
     pour-entries-requires

@@ -1,42 +1,41 @@
 use Prim.Native.Nat.{_-_}
-use native.Mathlib.Omega.{arith}
-use lib.ListN.{length}
+use Rattle.characters.proofs.Entries.{Laying, layings}
 use borrow.Author.Needs.{needs}
-use Rattle.wire.proofs.Laying.{Laying}
-use Rattle.writing.specs.Writing.{bytesOf}
-use Rattle.writing.proofs.Lists.{layings}
-use Rattle.writing.proofs.lay_characters.Statement.{statement}
-use Rattle.writing.proofs.lay_characters.Tie as tie
+use Rattle.characters.proofs.lay.Statement.{statement}
+use Rattle.characters.proofs.lay.Tie as tie
 
 abbrev Inv-loop : tie.InvT-loop
-Inv-loop list out₀ at i₀ out i = Laying (bytesOf list) out₀ out at i
+Inv-loop list out₀ at count i₀ out i = Laying list out₀ out at count i
 
 abbrev μ-loop : tie.MeasureT-loop
-μ-loop list out₀ at i₀ out i = length list - i
+μ-loop list out₀ at count i₀ out i = count - i
+
+in-room-requires : tie.Need-in-room-requires Inv-loop μ-loop
+in-room-requires c κs = search (needs, layings)
 
 loop-holds : tie.Need-loop-holds Inv-loop μ-loop
 loop-holds c = search (needs, layings)
 
 mul-v : tie.Need-mul-v Inv-loop μ-loop
-mul-v c = omega arith
+mul-v c = search (needs, layings)
 
 shared-slice-copy-out-v : tie.Need-shared-slice-copy-out-v Inv-loop μ-loop
-shared-slice-copy-out-v c = omega arith
+shared-slice-copy-out-v c = search (needs, layings)
 
 add-to : tie.Need-add-to Inv-loop μ-loop
-add-to c = search needs
+add-to c = search (needs, layings)
 
 byte-of-requires : tie.Need-byte-of-requires Inv-loop μ-loop
-byte-of-requires c κs = search needs
+byte-of-requires c κs = search (needs, layings)
 
 slice-write-out : tie.Need-slice-write-out Inv-loop μ-loop
-slice-write-out c = search needs
+slice-write-out c = search (needs, layings)
 
 add-i : tie.Need-add-i Inv-loop μ-loop
-add-i c = omega arith
+add-i c = search (needs, layings)
 
 loop-less : tie.Need-loop-less Inv-loop μ-loop
-loop-less c = omega arith
+loop-less c = search (needs, layings)
 
 loop-again : tie.Need-loop-again Inv-loop μ-loop
 loop-again c = search (needs, layings)
@@ -47,12 +46,13 @@ same-length c = search (needs, layings)
 returns : tie.Need-returns Inv-loop μ-loop
 returns c = search (needs, layings)
 
-pub lay-characters-spec : {M : Type 1} → statement M
-lay-characters-spec =
+pub lay-spec : {M : Type 1} → statement M
+lay-spec =
     tie.close
     (tie.spec
     Inv-loop
     μ-loop
+    in-room-requires
     loop-holds
     mul-v
     shared-slice-copy-out-v
