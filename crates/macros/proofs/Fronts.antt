@@ -15,14 +15,13 @@ use lib.Seq.{getD-drop, drop-drop, take-all}
 use Rattle.refusals.specs.Answers.{every, pick}
 use Rattle.refusals.proofs.Cases.{by-pick, bool-apart}
 use Rattle.refusals.proofs.Many.{Checking, checking-none, checking-end, checking-more}
-use Rattle.macros.specs.declared.Header.{Header}
 use Rattle.macros.specs.declared.Front.{Front}
 use Rattle.macros.specs.declared.Front.the-variants.{Here, NoEntry}
 use Rattle.macros.specs.declared.Gap.{Gap}
 use Rattle.macros.specs.declared.Survey.{Survey}
 use Rattle.macros.specs.declared.Survey.the-variants.{Formed, Malformed}
 use Rattle.macros.specs.Store.{Entry, Layout, threeIn, threeBytes, sizeOf, atMost, areBody, bodyIn, isEntry, entries, below, wellFormed, hasBody}
-use Rattle.macros.specs.Fronts.{Bytes, HeaderIs, EntryIs, FrontIs, GapIs, FormedIs, SurveyIs, gapBehind}
+use Rattle.macros.specs.Fronts.{Bytes, LengthIs, EntryIs, FrontIs, GapIs, FormedIs, SurveyIs, gapBehind}
 use Rattle.macros.proofs.Layouts.{Lawful, three-size, three-longest, three-lawful}
 use Rattle.macros.proofs.Reading.{stands, body-long, entryIn, restFrom, rest-all, rest-none, rest-one, size-cons, size-nil, keep-yes, keep-no, keep-nil, and-no}
 
@@ -35,15 +34,28 @@ pub ruleset bounds = (checking-none, byte-more, checking-end)
 
 -- ---- a header
 
-pub header-so : (s : List ℕ) (at : ℕ) {a b c : ℕ} → a ≡ getD s at 0 → a ≤ 255 → b ≡ getD s (at + 1) 0 → b ≤ 255 → c ≡ getD s (at + 2) 0 → c ≤ 255
-    → HeaderIs threeBytes (drop at s) (record { number = a * 128 + b / 2; long = b % 2 * 256 + c })
+-- the header at the front of the bytes d
+pub record HeaderIs (L : Layout) (d : List ℕ) (n : ℕ) : Type 0 where
+  pub number : n ≡ L .numberIn d
+  pub spare : L .spareZero d ≡ true
+  pub small : n ≤ 32767
+
+three-at : (s : List ℕ) (at : ℕ) → getD s at 0 * 65536 + getD s (at + 1) 0 * 256 + getD s (at + 2) 0 ≡ threeIn (drop at s)
+three-at s at = rw (getD-drop at s 0 0, add-zero at, getD-drop at s 1 0, getD-drop at s 2 0)
+
+pub header-so : (s : List ℕ) (at : ℕ) {a b : ℕ} → Bytes s → a ≡ getD s at 0 → b ≡ getD s (at + 1) 0 → HeaderIs threeBytes (drop at s) (a * 128 + b / 2)
+unfolding threeBytes Bytes
+header-so s at {a} {b} bytes ea eb =
+    let n : a * 128 + b / 2 ≡ threeIn (drop at s) / 512 = omega (arith, three-at s at, ea, eb, bytes at, bytes (at + 1), bytes (at + 2)) in
+    record { number = n; spare = refl; small = omega (arith, ea, eb, bytes at, bytes (at + 1)) }
+
+pub ninth-bit : (s : List ℕ) (at : ℕ) {b c : ℕ} → 0 < b % 2 → b ≡ getD s (at + 1) 0 → c ≡ getD s (at + 2) 0 → c ≤ 255 → LengthIs threeBytes (drop at s) (256 + c)
 unfolding threeBytes
-header-so s at {a} {b} {c} ea ha eb hb ec hc =
-    let e : a * 65536 + b * 256 + c ≡ threeIn (drop at s)
-    = rw (getD-drop at s 0 0, add-zero at, getD-drop at s 1 0, getD-drop at s 2 0, ea, eb, ec) in
-    let n : a * 128 + b / 2 ≡ (a * 65536 + b * 256 + c) / 512 = omega arith in
-    let l : b % 2 * 256 + c ≡ (a * 65536 + b * 256 + c) % 512 = omega arith in
-    record { number = n ∙ ap (λ (v : ℕ). v / 512) e; long = l ∙ ap (λ (v : ℕ). v % 512) e; spare = refl; small = omega arith }
+ninth-bit s at h eb ec hc = record { long = omega (arith, three-at s at, eb, ec, hc, h) }
+
+pub eight-bits : (s : List ℕ) (at : ℕ) {b c : ℕ} → b % 2 ≤ 0 → b ≡ getD s (at + 1) 0 → c ≡ getD s (at + 2) 0 → c ≤ 255 → LengthIs threeBytes (drop at s) c
+unfolding threeBytes
+eight-bits s at h eb ec hc = record { long = omega (arith, three-at s at, eb, ec, hc, h) }
 
 -- ---- a header with room for its body, test by test
 
@@ -53,20 +65,20 @@ module _ (L : Layout) (s : List ℕ) (at : ℕ) where
   unfolding FrontIs hasBody
   no-room e h = rw (lt-leb (L .size) (length (drop at s)) (omega (arith, e, length-drop at s)))
 
-  module _ {head : Header} (is : HeaderIs L (drop at s) head) where
-    pub no-body : head .long < 1 → FrontIs L (hasBody L) s at NoEntry
+  module _ {k : ℕ} (body : LengthIs L (drop at s) k) where
+    pub no-body : k < 1 → FrontIs L (hasBody L) s at NoEntry
     unfolding FrontIs hasBody
-    no-body h = rw (lt-leb 1 (L .lengthIn (drop at s)) (omega (arith, is .long))) (simp and-no)
+    no-body h = rw (lt-leb 1 (L .lengthIn (drop at s)) (omega (arith, body .long))) (simp and-no)
 
-    pub cut-off : {size : ℕ} → size ≡ L .size → size ≤ length s - at → length s - at - size < head .long → FrontIs L (hasBody L) s at NoEntry
+    pub cut-off : {size : ℕ} → size ≡ L .size → at + size ≤ length s → length s - at - size < k → FrontIs L (hasBody L) s at NoEntry
     unfolding FrontIs hasBody
-    cut-off e g h = rw (lt-leb (L .size + L .lengthIn (drop at s)) (length (drop at s)) (omega (arith, e, is .long, length-drop at s))) (simp and-no)
+    cut-off e g h = rw (lt-leb (L .size + L .lengthIn (drop at s)) (length (drop at s)) (omega (arith, e, body .long, length-drop at s))) (simp and-no)
 
-    pub a-head : {size : ℕ} → size ≡ L .size → size ≤ length s - at → 1 ≤ head .long → head .long ≤ length s - at - size → FrontIs L (hasBody L) s at (Here (head .number) (at + size) (at + size + head .long))
+    pub a-head : {n size : ℕ} → HeaderIs L (drop at s) n → size ≡ L .size → at + size ≤ length s → 1 ≤ k → k ≤ length s - at - size → FrontIs L (hasBody L) s at (Here n (at + size) (at + size + k))
     unfolding FrontIs hasBody
-    a-head e h₁ h₂ h₃ =
+    a-head is e h₁ h₂ h₃ =
         let d = drop at s in
-        let l = is .long in
+        let l = body .long in
         let m = length-drop at s in
         record {
           is = simp (
@@ -83,7 +95,7 @@ module _ (L : Layout) (s : List ℕ) (at : ℕ) where
           inside = omega (arith, h₃, h₁);
         }
 
-pub ruleset heads = (three-size, no-room, no-body, cut-off, a-head)
+pub ruleset heads = (three-size, no-body, cut-off, a-head, header-so)
 
 -- ---- what passes a test at a place
 

@@ -6,7 +6,6 @@ use mathlib.Core.List.{List}
 use lib.Dec.{leb, ltb, eqb}
 use lib.ListN.{length, getD, drop}
 use Rattle.refusals.specs.Answers.{pick}
-use Rattle.macros.specs.declared.Header.{Header}
 use Rattle.macros.specs.declared.Front.{Front}
 use Rattle.macros.specs.declared.Front.the-variants.{Here, NoEntry}
 use Rattle.macros.specs.declared.Gap.{Gap}
@@ -18,12 +17,9 @@ use Rattle.macros.specs.Store.{Layout, sizeOf, stored, entries, wellForm
 unfoldable pub Bytes : List ℕ → Type 0
 Bytes s = (i : ℕ) → getD s i 0 ≤ 255
 
--- the header at the front of the bytes d
-pub record HeaderIs (L : Layout) (d : List ℕ) (h : Header) : Type 0 where
-  pub number : h .number ≡ L .numberIn d
-  pub long : h .long ≡ L .lengthIn d
-  pub spare : L .spareZero d ≡ true
-  pub small : h .number ≤ 32767
+-- the body of the header at the front of the bytes d has k bytes
+pub record LengthIs (L : Layout) (d : List ℕ) (k : ℕ) : Type 0 where
+  pub long : k ≡ L .lengthIn d
 
 -- what passes a test at a place: its number, and where its body begins and ends
 pub record EntryIs (L : Layout) (passes : List ℕ → Bool) (s : List ℕ) (at number from to : ℕ) : Type 0 where

@@ -10,7 +10,7 @@ ghost use lib.IntN.{natAbs};
 ghost use Rattle.refusals.specs.Answers.{every};
 ghost use Rattle.ranges.specs.Ranges.{within};
 ghost use Rattle.macros.specs.Store.{threeBytes, atMost, isEntry, wellFormed, one, encoded, mayDefine, defineRefusal, storeAfter, definingOf, lookedUp, findRefusal, findingOf, placed, placeOf, hasBody, bodyByHeaders, lookedByHeaders};
-ghost use Rattle.macros.specs.Fronts.{HeaderIs, FrontIs, GapIs, SurveyIs, gapBehind, roomFor, fitsIn, putIn};
+ghost use Rattle.macros.specs.Fronts.{LengthIs, FrontIs, GapIs, SurveyIs, gapBehind, roomFor, fitsIn, putIn};
 use refusals::Refusal;
 
 // "The header is three bytes."
@@ -34,12 +34,6 @@ pub enum Place {
     InVolatile(usize, usize),
     InSaved(usize, usize),
     Nowhere(Refusal),
-}
-
-struct Header {
-    number: usize,
-    // the length of the body
-    long: usize,
 }
 
 // What stands at a place of a store.
@@ -89,41 +83,40 @@ fn byte_at(store: &[u8], at: usize) -> usize
     store[at] as usize
 }
 
-// "15 bits of number, 9 bits of body length", the most significant first.
-fn header_at(store: &[u8], at: usize) -> Header
-    requires { ⌜ at + 3 ≤ length (now store) ⌝ }
-    ensures { λ r. ⌜ HeaderIs threeBytes (drop at (now (store .entry))) r ⌝ }
-{
-    let middle = byte_at(store, at + 1);
-    let number = byte_at(store, at) * 128 + middle / 2;
-    let long = middle % 2 * 256 + byte_at(store, at + 2);
-    Header {
-        number: number,
-        long: long,
-    }
-}
-
-// A header at a place, with room for its body.
-fn headed_at(store: &[u8], at: usize) -> Front
-    requires { ⌜ at ≤ length (now store) ⌝ }
+// A header at a place, if it has so long a body and there is room for that: "15 bits of number" come first.
+fn with_body(store: &[u8], at: usize, long: usize) -> Front
+    requires { ⌜ (at + 3 ≤ length (now store)) × LengthIs threeBytes (drop at (now store)) long ⌝ }
     ensures { λ r. ⌜ FrontIs threeBytes (hasBody threeBytes) (now (store .entry)) at r ⌝ }
 {
     let room = store.len() - at;
-    if room < HEADER {
-        return Front::NoEntry;
-    }
-    let header = header_at(store, at);
-    let number = header.number;
-    let long = header.long;
     if long < 1 {
         return Front::NoEntry;
     }
     if room - HEADER < long {
         return Front::NoEntry;
     }
+    let number = byte_at(store, at) * 128 + byte_at(store, at + 1) / 2;
     let from = at + HEADER;
     let to = from + long;
     Front::Here(number, from, to)
+}
+
+// A header at a place, with room for its body: "9 bits of body length" come last. The first of them is set for a body of 256 bytes alone:
+// behind a branch, the place of the next header does not wait for it.
+fn headed_at(store: &[u8], at: usize) -> Front
+    requires { ⌜ at ≤ length (now store) ⌝ }
+    ensures { λ r. ⌜ FrontIs threeBytes (hasBody threeBytes) (now (store .entry)) at r ⌝ }
+{
+    if store.len() - at < HEADER {
+        return Front::NoEntry;
+    }
+    let middle = byte_at(store, at + 1);
+    let last = byte_at(store, at + 2);
+    if middle % 2 > 0 {
+        let long = 256 + last;
+        return with_body(store, at, long);
+    }
+    with_body(store, at, last)
 }
 
 // The entry at a place, if it may stand there with `least` the least number that it may have.

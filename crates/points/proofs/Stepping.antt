@@ -19,7 +19,7 @@ use Rattle.wire.specs.Taking.{byteAt, byteOf}
 use Rattle.points.specs.declared.PointRead.the-variants.{At, NoPoint}
 use Rattle.points.specs.declared.PointBytes.{PointBytes}
 use Rattle.points.specs.Layout.{Inside, bytesOf, coordinates}
-use Rattle.points.specs.Reading.{byKind, endsAt, withLoX, pointOf, pointFrom, pointAt}
+use Rattle.points.specs.Reading.{byKind, endsAt, withHiY, withLoX, pointOf, afterHiY, pointFrom, pointAt}
 
 module _ (kept : Remembered) (s : List ℕ) (at : ℕ) {r : ByteRead} (e : byteOf r ≡ byteAt kept s at) (hi lo upper : Read ℕ → Answer (Read Point)) where
   module _ {v p n : ℕ} (g : r ≡ Byte v p n) {q : Answer (Read Point)} where
@@ -42,6 +42,24 @@ module _ (kept : Remembered) (s : List ℕ) (at : ℕ) {r : ByteRead} (e : byteO
 pub not-allowed : (p : ℕ) → pointOf (NoPoint ByteNotAllowed p) ≡ refused 3 p
 unfolding pointOf
 not-allowed p = refl
+
+-- ---- HiY, or none: the rest is read alike
+
+module _ (kept : Remembered) (s : List ℕ) (at : ℕ) {r : ByteRead} (e : byteOf r ≡ byteAt kept s at) (b : PointBytes) where
+  pub a-hi-y : {v p n : ℕ} → r ≡ Byte v p n → v < 64 → afterHiY kept (withHiY b v) s n ≡ pointFrom kept b s at
+  unfolding pointFrom byKind byteOf
+  a-hi-y {v} g l = rw (← e, g, lt-ltb v 64 l)
+
+  pub no-hi-y : {v p n : ℕ} → r ≡ Byte v p n → 64 ≤ v → afterHiY kept b s at ≡ pointFrom kept b s at
+  unfolding pointFrom afterHiY byKind byteOf
+  no-hi-y {v} g l = rw (← e, g, le-ltb v 64 l)
+
+  pub no-byte-yet : {x : Refusal} {p : ℕ} → r ≡ NoByte x p → afterHiY kept b s at ≡ pointFrom kept b s at
+  unfolding pointFrom afterHiY byKind byteOf
+  no-byte-yet g = rw (← e, g)
+
+pub started : (kept : Remembered) (b : PointBytes) (s : List ℕ) (at : ℕ) {rest q : Answer (Read Point)} → rest ≡ pointFrom kept b s at → q ≡ rest → q ≡ pointFrom kept b s at
+started kept b s at e j = j ∙ e
 
 -- ---- the bytes of a point, and the point of its bytes
 

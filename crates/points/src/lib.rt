@@ -31,6 +31,12 @@ pub struct PointBytes {
     pub lox: u8,
 }
 
+// The bytes in force behind HiY, and where the rest of a point begins.
+struct Start {
+    bytes: PointBytes,
+    from: usize,
+}
+
 // ---- fields of a coordinate
 
 fn five_bits(b: u8) -> u16
@@ -188,24 +194,33 @@ fn after_hi_y(kept: Remembered, b: PointBytes, s: &[u8], at: usize) -> PointRead
     }
 }
 
-// A point, the bytes `b` being those of the last one.
-fn from_start(kept: Remembered, b: PointBytes, s: &[u8], at: usize) -> PointRead
-    ensures { λ r. ⌜ pointOf r ≡ pointFrom kept b (now (s .entry)) at ⌝ }
+// HiY, if it stands; where it is left out, the rest is read as behind it.
+fn past_hi_y(kept: Remembered, b: PointBytes, s: &[u8], at: usize) -> Start
+    ensures { λ r. ⌜ afterHiY kept (r .bytes) (now (s .entry)) (r .from) ≡ pointFrom kept b (now (s .entry)) at ⌝ }
 {
     match wire::take(kept, s, at) {
-        ByteRead::Byte(v, p, n) => {
+        ByteRead::Byte(v, _, n) => {
             if v < 64 {
                 let mut more = b;
                 more.hiy = v;
-                return after_hi_y(kept, more, s, n);
+                return Start {
+                    bytes: more,
+                    from: n,
+                };
             }
-            if v < 96 {
-                return ends(b, v, p, n);
-            }
-            after_upper(kept, b, v, s, n)
+            Start { bytes: b, from: at }
         }
-        ByteRead::NoByte(e, p) => PointRead::NoPoint(e, p),
+        ByteRead::NoByte(_, _) => Start { bytes: b, from: at },
     }
+}
+
+// A point, the bytes `b` being those of the last one. There is one way on behind HiY, so that the bytes in force need not be stored to be handed over.
+fn from_start(kept: Remembered, b: PointBytes, s: &[u8], at: usize) -> PointRead
+    ensures { λ r. ⌜ pointOf r ≡ pointFrom kept b (now (s .entry)) at ⌝ }
+{
+    let start = past_hi_y(kept, b, s, at);
+    let bytes = start.bytes;
+    after_hi_y(kept, bytes, s, start.from)
 }
 
 // 8 at place 0 for a remembered point outside 0..4095, then the earliest byte decides.

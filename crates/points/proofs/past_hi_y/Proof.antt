@@ -1,0 +1,26 @@
+use Rattle.points.proofs.Stepping.{a-hi-y, no-hi-y, no-byte-yet}
+use borrow.Author.Needs.{needs}
+use Rattle.points.proofs.past_hi_y.Statement.{statement}
+use Rattle.points.proofs.past_hi_y.Tie as tie
+
+take-requires : tie.Need-take-requires
+take-requires c κs = search needs
+
+enum-known-v : tie.Need-enum-known-v
+enum-known-v c = search needs
+
+returns : tie.Need-returns
+returns c = search (needs, a-hi-y, no-hi-y, no-byte-yet)
+
+enum-told : tie.Need-enum-told
+enum-told c = search needs
+
+returns-2 : tie.Need-returns-2
+returns-2 c = search (needs, a-hi-y, no-hi-y, no-byte-yet)
+
+returns-3 : tie.Need-returns-3
+returns-3 c = search (needs, a-hi-y, no-hi-y, no-byte-yet)
+
+pub past-hi-y-spec : {M : Type 1} → statement M
+past-hi-y-spec =
+    tie.close (tie.spec take-requires enum-known-v returns enum-told returns-2 returns-3)
