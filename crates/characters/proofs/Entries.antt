@@ -13,7 +13,7 @@ use mir.Facts.{toZ-ofZ}
 use Rattle.refusals.specs.Answers.{every}
 use Rattle.refusals.proofs.Many.{every-split}
 use Rattle.wire.specs.Sending.{inRoom}
-use Rattle.wire.proofs.Laying.{Copying, copying-none, copying-more, copying-end}
+use Rattle.wire.proofs.Laying.{Laying, laying-none, laying-more, laying-end}
 use Rattle.ranges.specs.Ranges.{within}
 use Rattle.ranges.proofs.Entries.{within-range}
 use Rattle.characters.specs.Characters.{bytesOf, lowBytes}
@@ -42,22 +42,16 @@ low-at [] i = refl
 low-at (v ∷ list) zero = refl
 low-at (v ∷ list) (suc i) = low-at list i
 
-pub record Laying (list : List ℤ) (out₀ out : List ℕ) (at count i : ℕ) : Type 0 where
-  pub few : count ≤ length list
-  pub copying : Copying (lowBytes list) out₀ out at count i
+module _ (list : List ℤ) (out₀ out : List ℕ) (at i : ℕ) {count : ℕ} (f : Laying (lowBytes list) out₀ out at i) (e : count ≡ inRoom (length list) (length out₀) at) where
+  many : count ≡ inRoom (length (lowBytes list)) (length out₀) at
+  many = e ∙ rw (low-long list)
 
-pub laying-none : (list : List ℤ) (out : List ℕ) (at : ℕ) {count : ℕ} → count ≡ inRoom (length list) (length out) at → Laying list out out at count 0
-laying-none list out at e =
-    let c = copying-none (lowBytes list) out at (e ∙ rw (low-long list)) in
-    record { few = omega (arith, c .few, low-long list); copying = c }
+  pub entry-laid : (v x : ℤ) {b : ℕ} → i < count → v ≡ getD list i (pos 0) → b ≡ natAbs x % 256 → x ≡ v → Laying (lowBytes list) out₀ (set out (at + i) b) at (i + 1)
+  entry-laid v x {b} h ev eb j =
+      let k : b ≡ getD (lowBytes list) i 0 = eb ∙ ap (λ (y : ℤ). natAbs y % 256) (j ∙ ev) ∙ sym (low-at list i) in
+      rw (← k) at (laying-more (lowBytes list) out₀ out at i f many h)
 
-module _ (list : List ℤ) (out₀ out : List ℕ) (at count i : ℕ) (f : Laying list out₀ out at count i) where
-  pub laying-more : (v x : ℤ) {b : ℕ} → i < count → v ≡ getD list i (pos 0) → b ≡ natAbs x % 256 → x ≡ v → Laying list out₀ (set out (at + i) b) at count (i + 1)
-  laying-more v x {b} h ev eb j =
-      let e : b ≡ getD (lowBytes list) i 0 = eb ∙ ap (λ (y : ℤ). natAbs y % 256) (j ∙ ev) ∙ sym (low-at list i) in
-      record { few = f .few; copying = rw (← e) at (copying-more (lowBytes list) out₀ out at count i (f .copying) h) }
+  pub entries-laid : count ≤ i → out ≡ sets out₀ at (lowBytes list)
+  entries-laid h = laying-end (lowBytes list) out₀ out at i f many h
 
-  pub laying-end : count ≤ i → out ≡ sets out₀ at (lowBytes list)
-  laying-end h = copying-end (lowBytes list) out₀ out at count i (f .copying) h
-
-pub ruleset layings = (laying-none, laying-more, laying-end)
+pub ruleset entering = (laying-none, entry-laid, entries-laid)

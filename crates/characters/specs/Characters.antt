@@ -16,7 +16,7 @@ areCharacters vs = every isCharacter vs
 abbrev pub bytesOf : List ℤ → List ℕ
 bytesOf vs = map natAbs vs
 
--- the same where an entry may be no byte: what does not fit is lost
+-- the same where an entry may be no byte: of its magnitude the lowest eight bits
 abbrev pub lowBytes : List ℤ → List ℕ
 lowBytes vs = map (λ v. natAbs v % 256) vs
 

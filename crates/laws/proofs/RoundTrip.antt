@@ -1,6 +1,6 @@
 -- A command that is written reads back from the same remembered point: the same letters, values and entries, ending where the writing
 -- ended, with the same point after it. Said over the kinds of parameter.
-use Prim.Native.Nat.{ℕ, zero, suc, _+_, _≤_, _<_}
+use Prim.Native.Nat.{ℕ, _+_, _≤_, _<_}
 use mathlib.Core.Path.{_≡_, refl, sym, _∙_, ap}
 use mathlib.Core.Bool.{Bool, true, false, _&&_, _||_}
 use mathlib.Core.List.{List, [], _∷_, _++_, map}
@@ -9,13 +9,11 @@ use borrow.Author.Tests.{lt-ltb, le-leb, leb-true, eqb-true, ne-eqb}
 use lib.Dec.{leb, eqb}
 use lib.ListN.{length, getD, length-append}
 use lib.IntN.{ℤ, pos, natAbs}
-use Rattle.memory.specs.declared.Point.{Point}
 use Rattle.memory.specs.declared.Remembered.{Remembered}
-use Rattle.memory.specs.Memory.{inside, remember}
-use Rattle.refusals.specs.Answers.{Answer, done, refused, Read, Reads, then, pick, endsAfter, allAfter}
+use Rattle.memory.specs.Memory.{inside}
+use Rattle.refusals.specs.Answers.{Answer, done, refused, Read, Reads, pick, endsAfter, allAfter}
 use Rattle.refusals.proofs.Cases.{and-left, and-right, zero-one}
 use Rattle.refusals.proofs.Many.{every-split}
-use Rattle.wire.specs.Taking.{byteAt}
 use Rattle.wire.specs.Sending.{sent}
 use Rattle.wire.proofs.Feeds.{Stands, stands-left, stands-right, stands-between, Feeds, sent-taken}
 use Rattle.numbers.specs.Integers.{spell, isInteger, integerAt}
@@ -24,7 +22,6 @@ use Rattle.numbers.proofs.RoundTrip.{integer-back, count-back}
 use Rattle.points.specs.Reading.{pointAt}
 use Rattle.points.specs.Writing.{spellPoint}
 use Rattle.points.proofs.RoundTrip.{point-back}
-use Rattle.characters.specs.Characters.{isCharacter}
 use Rattle.ranges.proofs.Entries.{within-range}
 use Rattle.table.specs.declared.Kind.{Kind}
 use Rattle.table.specs.declared.Kind.the-variants as K
@@ -36,8 +33,8 @@ use Rattle.parameters.specs.declared.Entry.the-variants.{AnInteger, ACharacter}
 use Rattle.parameters.specs.declared.Parameters.{Parameters}
 use Rattle.parameters.specs.declared.Parameters.the-variants.{Single, Double, Triple, OnePoint, Corners, Scale, Letters, Text, Array, NumberedText, NumberedArray}
 use Rattle.parameters.specs.Entries.{entryAt, entriesFrom, Held, runAt}
-use Rattle.parameters.specs.Shapes.{Part, single, real, point, Tail, none, counted, Shape, Value, number, scaled, place, shapeOf, valuesOf, tailOf}
-use Rattle.parameters.specs.Looking.{pairAt, Fixed, partAt, fixedAt, tailAt, Parsed, parametersAt, entryIn}
+use Rattle.parameters.specs.Shapes.{Part, single, real, point, Tail, none, counted, Value, number, scaled, place, shapeOf, valuesOf, tailOf}
+use Rattle.parameters.specs.Looking.{pairAt, partAt, fixedAt, tailAt, Parsed, parametersAt, entryIn}
 use Rattle.commands.specs.declared.Command.{Command}
 use Rattle.commands.specs.Reading.{letterAt, secondAt, headAt, Meaning, meaning, bodyAt, commandAt}
 use Rattle.writable.specs.Writable.{kindFor, kindNumber, sameKind, isKind, isEntry, areEntries, isValue, areValues, isTail, fits, isCommand}

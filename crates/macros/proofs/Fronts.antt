@@ -34,8 +34,8 @@ pub ruleset bounds = (checking-none, byte-more, checking-end)
 
 -- ---- a header
 
--- the header at the front of the bytes d
-pub record HeaderIs (L : Layout) (d : List ℕ) (n : ℕ) : Type 0 where
+-- the number in the header at the front of the bytes d
+pub record NumberIs (L : Layout) (d : List ℕ) (n : ℕ) : Type 0 where
   pub number : n ≡ L .numberIn d
   pub spare : L .spareZero d ≡ true
   pub small : n ≤ 32767
@@ -43,9 +43,9 @@ pub record HeaderIs (L : Layout) (d : List ℕ) (n : ℕ) : Type 0 where
 three-at : (s : List ℕ) (at : ℕ) → getD s at 0 * 65536 + getD s (at + 1) 0 * 256 + getD s (at + 2) 0 ≡ threeIn (drop at s)
 three-at s at = rw (getD-drop at s 0 0, add-zero at, getD-drop at s 1 0, getD-drop at s 2 0)
 
-pub header-so : (s : List ℕ) (at : ℕ) {a b : ℕ} → Bytes s → a ≡ getD s at 0 → b ≡ getD s (at + 1) 0 → HeaderIs threeBytes (drop at s) (a * 128 + b / 2)
+pub number-so : (s : List ℕ) (at : ℕ) {a b : ℕ} → Bytes s → a ≡ getD s at 0 → b ≡ getD s (at + 1) 0 → NumberIs threeBytes (drop at s) (a * 128 + b / 2)
 unfolding threeBytes Bytes
-header-so s at {a} {b} bytes ea eb =
+number-so s at {a} {b} bytes ea eb =
     let n : a * 128 + b / 2 ≡ threeIn (drop at s) / 512 = omega (arith, three-at s at, ea, eb, bytes at, bytes (at + 1), bytes (at + 2)) in
     record { number = n; spare = refl; small = omega (arith, ea, eb, bytes at, bytes (at + 1)) }
 
@@ -74,7 +74,7 @@ module _ (L : Layout) (s : List ℕ) (at : ℕ) where
     unfolding FrontIs hasBody
     cut-off e g h = rw (lt-leb (L .size + L .lengthIn (drop at s)) (length (drop at s)) (omega (arith, e, body .long, length-drop at s))) (simp and-no)
 
-    pub a-head : {n size : ℕ} → HeaderIs L (drop at s) n → size ≡ L .size → at + size ≤ length s → 1 ≤ k → k ≤ length s - at - size → FrontIs L (hasBody L) s at (Here n (at + size) (at + size + k))
+    pub a-head : {n size : ℕ} → NumberIs L (drop at s) n → size ≡ L .size → at + size ≤ length s → 1 ≤ k → k ≤ length s - at - size → FrontIs L (hasBody L) s at (Here n (at + size) (at + size + k))
     unfolding FrontIs hasBody
     a-head is e h₁ h₂ h₃ =
         let d = drop at s in
@@ -95,7 +95,7 @@ module _ (L : Layout) (s : List ℕ) (at : ℕ) where
           inside = omega (arith, h₃, h₁);
         }
 
-pub ruleset heads = (three-size, no-body, cut-off, a-head, header-so)
+pub ruleset heads = (three-size, no-body, cut-off, a-head, number-so)
 
 -- ---- what passes a test at a place
 

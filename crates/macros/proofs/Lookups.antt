@@ -4,7 +4,7 @@ use mathlib.Core.Path.{_≡_, refl, sym, _∙_, ap, subst}
 use mathlib.Core.Bool.{Bool, true, false, not, _&&_}
 use mathlib.Core.List.{List, []}
 use native.Mathlib.Omega.{arith}
-use borrow.Author.Tests.{not-true, not-false, le-leb, eq-eqb, ne-eqb, leb-true}
+use borrow.Author.Tests.{not-true, not-false, le-leb, leb-true}
 use lib.Arith.{lt-of-le-ne}
 use lib.Dec.{leb}
 use lib.ListN.{length, take, drop}
@@ -27,6 +27,7 @@ use Rattle.macros.specs.declared.Finding.the-variants.{Found, NotFound}
 use Rattle.macros.specs.Store.{Layout, sizeOf, below, entries, wellFormed, isNumber, bodyOf, bodyInEither, lookRefusal, findRefusal, lookedUp, findingOf, Placed, placed, storeNamed, placeOf}
 use Rattle.macros.specs.Fronts.{GapIs, FormedIs, SurveyIs, roomFor}
 use Rattle.macros.proofs.Layouts.{Lawful, three-size, three-lawful}
+use Rattle.macros.proofs.Placing.{room-none, room-some}
 use Rattle.macros.proofs.Fronts.{formed-of, malformed-of}
 use Rattle.macros.proofs.Locations.{stand, either-first, either-second, placed-number, located-part, located-inside}
 
@@ -39,18 +40,10 @@ module _ (L : Layout) (lawful : Lawful L) (s : List ℕ) (k : ℕ) {g : Gap} (ga
   between : g .old ≡ g .at + roomFor L long
   between = omega (arith, gap .at, gap .old, stand L lawful k s .room)
 
-  some-room : (c : ℕ) → (c ≡ 0 → ⊥) → roomFor L c ≡ L .size + c
-  unfolding roomFor
-  some-room c h = rw (ne-eqb c 0 h)
-
-  no-room : (c : ℕ) → c ≡ 0 → roomFor L c ≡ 0
-  unfolding roomFor
-  no-room c h = rw (eq-eqb c 0 h)
-
   body-between : g .at < g .old → (1 ≤ long) × (g .old ≡ g .at + L .size + long)
   body-between h =
-      let some : long ≡ 0 → ⊥ = λ e. omega (arith, h, between, no-room long e) in
-      (one-or-more long some, omega (arith, between, some-room long some))
+      let some : long ≡ 0 → ⊥ = λ e. omega (arith, h, between, room-none L long e) in
+      (one-or-more long some, omega (arith, between, room-some L long refl some))
     where
       one-or-more : (c : ℕ) → (c ≡ 0 → ⊥) → 1 ≤ c
       one-or-more c d = lt-of-le-ne (omega arith) (λ e. d (sym e))
@@ -61,7 +54,7 @@ module _ (L : Layout) (lawful : Lawful L) (s : List ℕ) (k : ℕ) {g : Gap} (ga
       go : (t : Bool) → leb 1 long ≡ t → leb 1 long ≡ false
       go true e =
           let l : 1 ≤ long = leb-true 1 long e in
-          absurd (omega (arith, h, between, some-room long (λ z. omega (arith, l, z))))
+          absurd (omega (arith, h, between, room-some L long refl (λ z. omega (arith, l, z))))
       go false e = e
 
 -- ---- locating

@@ -83,7 +83,7 @@ fn byte_at(store: &[u8], at: usize) -> usize
     store[at] as usize
 }
 
-// A header at a place, if it has so long a body and there is room for that: "15 bits of number" come first.
+// The header at a place whose body has `long` bytes, if that is some and has room. "15 bits of number" come first.
 fn with_body(store: &[u8], at: usize, long: usize) -> Front
     requires { ⌜ (at + 3 ≤ length (now store)) × LengthIs threeBytes (drop at (now store)) long ⌝ }
     ensures { λ r. ⌜ FrontIs threeBytes (hasBody threeBytes) (now (store .entry)) at r ⌝ }
@@ -101,8 +101,8 @@ fn with_body(store: &[u8], at: usize, long: usize) -> Front
     Front::Here(number, from, to)
 }
 
-// A header at a place, with room for its body: "9 bits of body length" come last. The first of them is set for a body of 256 bytes alone:
-// behind a branch, the place of the next header does not wait for it.
+// A header at a place, with room for its body: "9 bits of body length" come last. In a well-formed store the first of them is set for a body of
+// 256 bytes alone: behind a branch, the place of the next header does not wait for it.
 fn headed_at(store: &[u8], at: usize) -> Front
     requires { ⌜ at ≤ length (now store) ⌝ }
     ensures { λ r. ⌜ FrontIs threeBytes (hasBody threeBytes) (now (store .entry)) at r ⌝ }

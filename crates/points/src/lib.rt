@@ -214,7 +214,8 @@ fn past_hi_y(kept: Remembered, b: PointBytes, s: &[u8], at: usize) -> Start
     }
 }
 
-// A point, the bytes `b` being those of the last one. There is one way on behind HiY, so that the bytes in force need not be stored to be handed over.
+// A point, the bytes `b` being those of the last one. There is one way on behind HiY, so that the bytes in force need not be stored to be
+// handed over.
 fn from_start(kept: Remembered, b: PointBytes, s: &[u8], at: usize) -> PointRead
     ensures { λ r. ⌜ pointOf r ≡ pointFrom kept b (now (s .entry)) at ⌝ }
 {

@@ -1,16 +1,16 @@
 -- A report that is written reads back, whatever stands before and after.
-use Prim.Native.Nat.{ℕ, zero, suc, _+_, _-_, _*_, _/_, _%_, _≤_, _<_}
-use mathlib.Core.Path.{_≡_, refl, sym, _∙_, ap}
-use mathlib.Core.Bool.{Bool, true, false, _&&_}
+use Prim.Native.Nat.{ℕ, _+_, _-_, _*_, _/_, _%_, _≤_, _<_}
+use mathlib.Core.Path.{_≡_, refl, _∙_, ap}
+use mathlib.Core.Bool.{Bool, true, false}
 use mathlib.Core.List.{List, [], _∷_, _++_, map}
 use native.Mathlib.Omega.{arith}
 use borrow.Author.Tests.{lt-ltb, le-ltb, le-leb, leb-true}
 use lib.Dec.{ltb, leb}
-use lib.ListN.{length, getD, take, drop, length-append, length-map, length-drop, length-take}
+use lib.ListN.{length, getD, take, drop, length-map, length-drop}
 use lib.Seq.{ext-getD, getD-take, getD-drop, length-take-le}
 use lib.IntN.{ℤ, pos, negsuc, natAbs}
-use Rattle.refusals.specs.Answers.{Answer, done, refused, Read, Reads, endsAfter}
-use Rattle.refusals.proofs.Cases.{and-left, and-right, zero-one}
+use Rattle.refusals.specs.Answers.{done, Reads, endsAfter}
+use Rattle.refusals.proofs.Cases.{and-left, and-right}
 use Rattle.refusals.proofs.Many.{every-split}
 use Rattle.wire.proofs.Feeds.{Stands, stands-between, stands-left, stands-right}
 use Rattle.numbers.specs.Integers.{signedOf, isNegative, lowOf}

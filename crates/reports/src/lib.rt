@@ -5,7 +5,6 @@ ghost use Prim.Native.Nat.{_≤_, _+_};
 ghost use mathlib.Core.Bool.{true};
 ghost use lib.ListN.{length};
 ghost use lib.Seq.{sets};
-ghost use lib.IntN.{natAbs};
 ghost use Rattle.wire.specs.Taking.{byteOf};
 ghost use Rattle.wire.specs.Sending.{writeAt, afterWrite, writtenOf};
 ghost use Rattle.numbers.specs.Integers.{integerOf};

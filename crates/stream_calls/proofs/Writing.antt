@@ -13,6 +13,7 @@ use Rattle.refusals.specs.declared.Refusal.the-variants.{NotValid}
 use Rattle.refusals.specs.Answers.{Answer, refused, valueOr}
 use Rattle.memory.specs.declared.Point.{Point}
 use Rattle.memory.specs.declared.Remembered.{Remembered}
+use Rattle.memory.specs.Memory.{remember}
 use Rattle.coordinates.specs.Coordinates.{pointOf}
 use Rattle.coordinates.proofs.Sides.{point-given}
 use Rattle.wire.specs.declared.Written.{Written}
@@ -80,6 +81,25 @@ pub kind-point : {k : Kind} (vs : List ℤ) {a b : ℤ} → a ≡ getD vs 0 (pos
     → {p : Point} → p ≡ pointOf (toZ w32 (ofZ w32 a)) (toZ w32 (ofZ w32 b)) → k ≡ K.APoint → OnePoint p ≡ ofKind k vs
 unfolding ofKind
 kind-point vs {a} {b} ea eb fa fb ep e = rw (e, point-given a b fa fb ep, ea, eb)
+
+-- ---- what is remembered behind a command of a kind
+
+module _ (kept : Remembered) {k : Kind} (vs : List ℤ) where
+  -- of a kind without points it is what was remembered before
+  pub kind-keeps : {q : Kind} → k ≡ q → kept ≡ afterValues kept (valuesOf (ofKind q vs)) → kept ≡ afterValues kept (valuesOf (ofKind k vs))
+  kind-keeps e j = rw e j
+
+  module _ {a b : ℤ} (fa : SFits w32 a) (fb : SFits w32 b) {p : Point} (ep : p ≡ pointOf (toZ w32 (ofZ w32 a)) (toZ w32 (ofZ w32 b))) {m : Remembered} (em : m ≡ remember kept p) where
+    pub point-kept : a ≡ getD vs 0 (pos 0) → b ≡ getD vs 1 (pos 0) → k ≡ K.APoint → m ≡ afterValues kept (valuesOf (ofKind k vs))
+    unfolding ofKind afterValues
+    point-kept ea eb e = em ∙ rw (e, point-given a b fa fb ep, ea, eb)
+
+    pub corner-kept : a ≡ getD vs 2 (pos 0) → b ≡ getD vs 3 (pos 0) → k ≡ K.TwoPoints → m ≡ afterValues kept (valuesOf (ofKind k vs))
+    unfolding ofKind afterValues
+    corner-kept ea eb e = em ∙ rw (e, point-given a b fa fb ep, ea, eb)
+
+pub behind-given : (kept : Remembered) (k : Kind) (vs : List ℤ) {ps : Parameters} {m : Remembered} → ps ≡ ofKind k vs → m ≡ afterValues kept (valuesOf (ofKind k vs)) → m ≡ afterValues kept (valuesOf ps)
+behind-given kept k vs e j = rw e j
 
 -- ---- the command, by what the table has for its letters
 

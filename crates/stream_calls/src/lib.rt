@@ -8,7 +8,7 @@ ghost use Rattle.refusals.specs.Answers.{number, valueOr};
 ghost use Rattle.wire.specs.Sending.{writtenOf, afterWrite};
 ghost use Rattle.parameters.specs.Shapes.{valuesOf};
 ghost use Rattle.writable.specs.Writable.{kindFor, kindNumber};
-ghost use Rattle.writing.specs.Writing.{spellCommand, writeFitting, writeCommand};
+ghost use Rattle.writing.specs.Writing.{afterValues, spellCommand, writeFitting, writeCommand};
 ghost use Rattle.stream.specs.Items.{itemAt, toldItem, afterItem};
 ghost use Rattle.stream_calls.specs.Slots.{keptIn, twoOf, itemKept, itemNumber, commandFields, itemFields, fourOf, itemValues};
 ghost use Rattle.stream_calls.specs.Given.{ofKind, ofFound, commandGiven, keptAfter};
@@ -173,27 +173,54 @@ fn of_kind(kind: Kind, v: &[i32; 4]) -> Parameters
     }
 }
 
+// What is remembered behind a command of a kind. It is made of the numbers: fetched from the parameters, where a point lies across the places
+// of integers, it would wait for them.
+fn kept_behind(kept: Remembered, kind: Kind, v: &[i32; 4]) -> Remembered
+    ensures { λ r. ⌜ r ≡ afterValues kept (valuesOf (ofKind kind (now (v .entry)))) ⌝ }
+{
+    let a = v[0];
+    let b = v[1];
+    let c = v[2];
+    let d = v[3];
+    match kind {
+        Kind::APoint => memory::with_point(kept, coordinates::point_of(a, b)),
+        Kind::TwoPoints => memory::with_point(kept, coordinates::point_of(c, d)),
+        Kind::AnInteger => kept,
+        Kind::TwoIntegers => kept,
+        Kind::ThreeIntegers => kept,
+        Kind::AReal => kept,
+        Kind::AString => kept,
+        Kind::AnArray => kept,
+        Kind::IntegerThenArray => kept,
+        Kind::IntegerThenString => kept,
+        Kind::TwoCharacters => kept,
+    }
+}
+
 // A writing's answer, and what is remembered behind it.
 struct Sent {
     answer: Written,
     kept: Remembered,
 }
 
-// Writes a command whose letters are known to have such parameters; and what is remembered behind it.
-fn write_known(kept: Remembered, command: Command, list: &[i32], out: &mut [u8]) -> Sent
+// Writes a command whose letters are known to have such parameters; and what is remembered then, which is `behind` where it was written.
+fn write_known(
+    kept: Remembered,
+    command: Command,
+    behind: Remembered,
+    list: &[i32],
+    out: &mut [u8],
+) -> Sent
+    requires { ⌜ behind ≡ afterValues kept (valuesOf (command .parameters)) ⌝ }
     ensures { λ r. ⌜ writtenOf (r .answer) ≡ writeFitting kept command (now (list .entry)) (length (now (out .entry))) ⌝ }
     ensures { λ r. ⌜ r .kept ≡ keptAfter kept command (writeFitting kept command (now (list .entry)) (length (now (out .entry)))) ⌝ }
     ensures { λ r. ⌜ now (out .exit) ≡ afterWrite (writeFitting kept command (now (list .entry)) (length (now (out .entry)))) (spellCommand kept command (now (list .entry))) (now (out .entry)) 0 ⌝ }
 {
-    let parameters = command.parameters;
     match writing::write_fitting(kept, command, list, out) {
-        Written::Next(n) => {
-            let behind = writing::remembered_after(kept, parameters);
-            Sent {
-                answer: Written::Next(n),
-                kept: behind,
-            }
-        }
+        Written::Next(n) => Sent {
+            answer: Written::Next(n),
+            kept: behind,
+        },
         Written::NotWritten(e) => Sent {
             answer: Written::NotWritten(e),
             kept: kept,
@@ -222,7 +249,8 @@ fn write_given(
                 second: second,
                 parameters: parameters,
             };
-            write_known(kept, command, list, out)
+            let behind = kept_behind(kept, kind, v);
+            write_known(kept, command, behind, list, out)
         }
         Found::NoKind => Sent {
             answer: Written::NotWritten(Refusal::NotValid),

@@ -14,7 +14,6 @@ use mir.Syntax.{w64}
 use mir.Val.{Fits}
 use Rattle.memory.specs.declared.Remembered.{Remembered}
 use Rattle.refusals.specs.Answers.{Answer, number}
-use Rattle.refusals.proofs.Cases.{by-pick}
 use Rattle.refusals.proofs.Many.{past-end, sets-append}
 use Rattle.refusals.specs.declared.Refusal.{Refusal}
 use Rattle.refusals.specs.declared.Refusal.the-variants.{TooShort, NotValid}
@@ -33,8 +32,9 @@ laying-none w out at =
     let z : at + 0 ≡ at = omega arith in
     record { upto = omega arith; long = refl; whole = ap (λ (k : ℕ). sets out k w) z }
 
-pub laying-more : (w out₀ out : List ℕ) (at i : ℕ) → Laying w out₀ out at i → i < length w → Laying w out₀ (set out (at + i) (getD w i 0)) at (i + 1)
-laying-more w out₀ out at i f h =
+pub laying-more : (w out₀ out : List ℕ) (at i : ℕ) {count : ℕ} → Laying w out₀ out at i → count ≡ inRoom (length w) (length out₀) at → i < count → Laying w out₀ (set out (at + i) (getD w i 0)) at (i + 1)
+laying-more w out₀ out at i f e k =
+    let h : i < length w = omega (arith, e, k) in
     let b = getD w i 0 in
     let d : drop i w ≡ b ∷ drop (i + 1) w = drop-cons w i 0 h ∙ rw (add-one i) in
     let z : at + (i + 1) ≡ at + i + 1 = omega arith in
@@ -43,9 +43,6 @@ laying-more w out₀ out at i f h =
       long = length-set out (at + i) b ∙ f .long;
       whole = rw (z, add-one (at + i)) (rw d at (f .whole));
     }
-
-pub laying-end : (w out₀ out : List ℕ) (at i : ℕ) → Laying w out₀ out at i → length w ≤ i → out ≡ sets out₀ at w
-laying-end w out₀ out at i f h = let d : drop i w ≡ [] = drop-of-length-le w h in rw d at (f .whole)
 
 -- whether there is room, with the tests as the code leaves them
 module _ (size room at : ℕ) where
@@ -61,7 +58,7 @@ module _ (size room at : ℕ) where
   unfolding writtenOf roomFor
   has-room p h = rw (le-leb (at + size) room (omega arith))
 
--- where there is an end there is room, and a place before it is a number
+-- where there is an end there is room, and a place before it fits a machine word
 found-room : (size room at : ℕ) {r : Written} {n : ℕ} → writtenOf r ≡ roomFor size room at → r ≡ Next n → at + size ≤ room
 unfolding writtenOf roomFor number
 found-room size room at {r} {n} j g = go (leb (at + size) room) refl
@@ -105,56 +102,15 @@ sent-same kept w e = ap (sent kept) e
 
 -- ---- as far as there is room
 
-module _ (size room at : ℕ) where
-  pub past-room : room < at → 0 ≡ inRoom size room at
-  unfolding inRoom
-  past-room h = by-pick (λ (c : ℕ). 0 ≡ c) (leb size (room - at)) size (room - at) (λ e. omega (arith, h, leb-true size (room - at) e)) (λ e. omega (arith, h))
-
-  pub less-room : at ≤ room → room - at < size → room - at ≡ inRoom size room at
-  unfolding inRoom
-  less-room p h = rw (lt-leb size (room - at) h)
-
-  pub enough-room : at ≤ room → size ≤ room - at → size ≡ inRoom size room at
-  unfolding inRoom
-  enough-room p h = rw (le-leb size (room - at) h)
-
-  in-size : inRoom size room at ≤ size
-  unfolding inRoom
-  in-size = by-pick (λ (c : ℕ). c ≤ size) (leb size (room - at)) size (room - at) (λ e. omega arith) (λ e. omega (arith, leb-false size (room - at) e))
-
-  in-free : inRoom size room at ≤ room - at
-  unfolding inRoom
-  in-free = by-pick (λ (c : ℕ). c ≤ room - at) (leb size (room - at)) size (room - at) (λ e. leb-true size (room - at) e) (λ e. omega arith)
-
-pub ruleset in-rooms = (past-room, less-room, enough-room)
-
--- so many of the bytes w have room
-pub record Copying (w out₀ out : List ℕ) (at count i : ℕ) : Type 0 where
-  pub few : count ≤ length w
-  pub room : count ≤ length out₀ - at
-  pub all : inRoom (length w) (length out₀) at ≡ count
-  pub laying : Laying w out₀ out at i
-
-pub copying-none : (w out : List ℕ) (at : ℕ) {count : ℕ} → count ≡ inRoom (length w) (length out) at → Copying w out out at count 0
-copying-none w out at e =
-    record { few = rw e (in-size (length w) (length out) at); room = rw e (in-free (length w) (length out) at); all = sym e; laying = laying-none w out at }
-
-pub copying-more : (w out₀ out : List ℕ) (at count i : ℕ) → Copying w out₀ out at count i → i < count → Copying w out₀ (set out (at + i) (getD w i 0)) at count (i + 1)
-copying-more w out₀ out at count i f h =
-    record { few = f .few; room = f .room; all = f .all; laying = laying-more w out₀ out at i (f .laying) (omega (arith, f .few)) }
-
 -- where room was wanting, what is left lies behind the end
-pub copying-end : (w out₀ out : List ℕ) (at count i : ℕ) → Copying w out₀ out at count i → count ≤ i → out ≡ sets out₀ at w
-unfolding inRoom
-copying-end w out₀ out at count i f h =
-    let free = length out₀ - at in
-    let f′ = f .laying in
-    by-pick (λ (c : ℕ). c ≤ i → out ≡ sets out₀ at w) (leb (length w) free) (length w) free
-    (λ e. λ k. laying-end w out₀ out at i f′ k)
-    (λ e. λ k. sym (past-end out (at + i) (drop i w) (omega (arith, k, f′ .long))) ∙ f′ .whole)
-    (rw (f .all) h)
+pub laying-end : (w out₀ out : List ℕ) (at i : ℕ) {count : ℕ} → Laying w out₀ out at i → count ≡ inRoom (length w) (length out₀) at → count ≤ i → out ≡ sets out₀ at w
+laying-end w out₀ out at i f e h = go (leb (length w) i) refl
+  where
+    go : (t : Bool) → leb (length w) i ≡ t → out ≡ sets out₀ at w
+    go true g = let d : drop i w ≡ [] = drop-of-length-le w (leb-true (length w) i g) in rw d at (f .whole)
+    go false g = sym (past-end out (at + i) (drop i w) (omega (arith, e, h, f .long, leb-false (length w) i g))) ∙ f .whole
 
-pub ruleset copyings = (copying-none, copying-more, copying-end)
+pub ruleset layings = (laying-none, laying-more, laying-end)
 
 -- ---- byte by byte
 

@@ -1,5 +1,5 @@
 -- Bytes that are written.
-use Prim.Native.Nat.{ℕ, _+_, _-_}
+use Prim.Native.Nat.{ℕ, _+_, _-_, min}
 use mathlib.Core.Bool.{Bool, true}
 use mathlib.Core.List.{List, []}
 use lib.ListN.{length}
@@ -29,8 +29,8 @@ unfoldable pub roomFor : ℕ → ℕ → ℕ → Answer ℕ
 roomFor size room at = pick (leb (at + size) room) (done (at + size)) (refused 7 0)
 
 -- how many of so many bytes from at on there is room for
-unfoldable pub inRoom : ℕ → ℕ → ℕ → ℕ
-inRoom size room at = pick (leb size (room - at)) size (room - at)
+abbrev pub inRoom : ℕ → ℕ → ℕ → ℕ
+inRoom size room at = min size (room - at)
 
 -- w from at on in so much room: all of it, or 7
 unfoldable pub writeAt : List ℕ → ℕ → ℕ → Answer ℕ

@@ -183,7 +183,7 @@ pub fn pour_three(kept: Remembered, a: u8, b: u8, d: u8, out: &mut [u8], at: usi
     n + m
 }
 
-// Whether each byte is sent as itself. Bytes may then be laid by whoever knows that they have room.
+// Whether each byte is sent as itself. Bytes may then be laid as they are.
 pub fn is_plain(kept: Remembered) -> bool
     ensures { λ r. ⌜ r ≡ isPlain kept ⌝ }
 {

@@ -11,8 +11,7 @@ use lib.ListN.{length, getD, take, drop, length-append, length-map, drop-of-leng
 use lib.Seq.{sets, sets-eq, take-append-seam, length-take-le, drop-cons, length-sets}
 use lib.IntN.{ℤ, pos, natAbs}
 use Rattle.memory.specs.declared.Remembered.{Remembered}
-use Rattle.memory.specs.declared.Point.{Point}
-use Rattle.memory.specs.Memory.{inside, remember}
+use Rattle.memory.specs.Memory.{inside}
 use Rattle.refusals.specs.Answers.{Answer}
 use Rattle.refusals.proofs.Cases.{and-left, and-right}
 use Rattle.refusals.proofs.Many.{sets-append, every-split}
@@ -26,7 +25,7 @@ use Rattle.numbers.proofs.Shortest.{spell-few}
 use Rattle.parameters.specs.declared.Entry.{Entry}
 use Rattle.parameters.specs.declared.Entry.the-variants.{ACharacter}
 use Rattle.parameters.specs.declared.Parameters.{Parameters}
-use Rattle.parameters.specs.Shapes.{Tail, none, counted, valuesOf, tailOf}
+use Rattle.parameters.specs.Shapes.{none, counted, valuesOf, tailOf}
 use Rattle.commands.specs.declared.Command.{Command}
 use Rattle.writable.specs.Writable.{isKind, isEntry, areEntries, areValues, isTail, fits, isCommand}
 use Rattle.writing.specs.Writing.{spellEntry, spellEntries, spellValues, afterValues, spellTail, spellParameters, spellCommand, Poured}

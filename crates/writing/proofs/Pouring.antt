@@ -1,7 +1,7 @@
 -- The bytes of a command, poured part by part.
-use Prim.Native.Nat.{ℕ, _+_, _%_, _≤_, _<_}
+use Prim.Native.Nat.{ℕ, _+_, _%_, _≤_}
 use mathlib.Core.Path.{_≡_, refl, sym, _∙_, ap}
-use mathlib.Core.Bool.{Bool, true, false, _&&_}
+use mathlib.Core.Bool.{Bool, true, _&&_}
 use mathlib.Core.List.{List, [], _∷_, _++_, append-nil, append-assoc}
 use native.Mathlib.Omega.{arith}
 use lib.ListN.{length, length-append}
@@ -24,7 +24,7 @@ use Rattle.parameters.specs.declared.Entry.the-variants.{AnInteger, ACharacter}
 use Rattle.parameters.specs.declared.Real.{Real}
 use Rattle.parameters.specs.declared.Parameters.{Parameters}
 use Rattle.parameters.specs.declared.Parameters.the-variants.{Single, Double, Triple, OnePoint, Corners, Scale, Letters, Text, Array, NumberedText, NumberedArray}
-use Rattle.parameters.specs.Shapes.{Value, number, scaled, place, valuesOf}
+use Rattle.parameters.specs.Shapes.{number, scaled, place, valuesOf}
 use Rattle.writable.specs.Writable.{isEntry, isValue, areValues}
 use Rattle.writing.specs.Writing.{spellEntry, spellValues, Poured}
 

@@ -4,7 +4,6 @@ ghost use mathlib.Core.Bool.{true};
 ghost use mathlib.Core.List.{_++_};
 ghost use Prim.Native.Nat.{_≤_, _+_};
 ghost use lib.ListN.{length};
-ghost use lib.Seq.{sets};
 ghost use Rattle.memory.specs.Memory.{inside, remember};
 ghost use Rattle.wire.specs.Sending.{sent, writtenOf, writeAt, afterWrite};
 ghost use Rattle.points.specs.Writing.{spellPoint};
@@ -111,7 +110,7 @@ fn pour_entries(kept: Remembered, entry: Entry, list: &[i32], out: &mut [u8], at
     n
 }
 
-// Bytes that are sent as themselves are laid with nothing asked between one and the next.
+// Where each byte is sent as itself, as all are today, the characters are laid all at once.
 fn pour_characters(kept: Remembered, list: &[i32], out: &mut [u8], at: usize) -> usize
     requires { ⌜ ((areEntries Entry.ACharacter (now list) ≡ true) × (length (now list) ≤ 256)) × (at ≤ 64) ⌝ }
     ensures { λ r. ⌜ Poured (spellEntries Entry.ACharacter kept (now (list .entry))) 768 (now (out .entry)) (now (out .exit)) at r ⌝ }

@@ -1,4 +1,4 @@
-use Rattle.stream_calls.proofs.Writing.{known-so, known-kept, known-out, unknown-so, unknown-kept, unknown-out}
+use Rattle.stream_calls.proofs.Writing.{known-so, known-kept, known-out, unknown-so, unknown-kept, unknown-out, behind-given}
 use borrow.Author.Needs.{needs}
 use Rattle.stream_calls.proofs.write_given.Statement.{statement}
 use Rattle.stream_calls.proofs.write_given.Tie as tie
@@ -12,8 +12,11 @@ enum-known-kind c = search needs
 of-kind-requires : tie.Need-of-kind-requires
 of-kind-requires c κs = search needs
 
+kept-behind-requires : tie.Need-kept-behind-requires
+kept-behind-requires c κs = search needs
+
 write-known-requires : tie.Need-write-known-requires
-write-known-requires c κs = search needs
+write-known-requires c κs = search (needs, behind-given)
 
 enum-told : tie.Need-enum-told
 enum-told c = search needs
@@ -34,6 +37,7 @@ write-given-spec =
     kind-of-requires
     enum-known-kind
     of-kind-requires
+    kept-behind-requires
     write-known-requires
     enum-told
     same-length

@@ -10,9 +10,6 @@ write-fitting-requires c κs = search needs
 enum-known-n : tie.Need-enum-known-n
 enum-known-n c = search needs
 
-remembered-after-requires : tie.Need-remembered-after-requires
-remembered-after-requires c κs = search needs
-
 enum-known-e : tie.Need-enum-known-e
 enum-known-e c = search needs
 
@@ -34,7 +31,6 @@ write-known-spec =
     (tie.spec
     write-fitting-requires
     enum-known-n
-    remembered-after-requires
     enum-known-e
     same-length
     returns
