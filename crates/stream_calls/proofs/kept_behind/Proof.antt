@@ -63,10 +63,10 @@ enum-told-11 : tie.Need-enum-told-11
 enum-told-11 c = search needs
 
 returns : tie.Need-returns
-returns c = search (needs, point-kept)
+returns c = search point-kept
 
 returns-2 : tie.Need-returns-2
-returns-2 c = search (needs, corner-kept)
+returns-2 c = search corner-kept
 
 returns-3 : tie.Need-returns-3
 unfolding ofKind afterValues
