@@ -16,7 +16,7 @@ use Rattle.wire.specs.Sending.{inRoom}
 use Rattle.wire.proofs.Laying.{Laying, laying-none, laying-more, laying-end}
 use Rattle.ranges.specs.Ranges.{within}
 use Rattle.ranges.proofs.Entries.{within-range}
-use Rattle.characters.specs.Characters.{bytesOf, lowBytes}
+use Rattle.characters.specs.Characters.{asBytes, lowBytes}
 
 pub low-byte : (v : ℤ) {m : ℕ} → SFits w32 v → m ≡ natAbs (toZ w32 (ofZ w32 v)) → m % 256 ≡ natAbs v % 256
 low-byte v f e = ap (λ (k : ℕ). k % 256) (rw (toZ-ofZ f) at e)
@@ -26,7 +26,7 @@ module _ (least : ℕ) where
   pub a-byte : (v : ℤ) → within least 127 v ≡ true → natAbs v % 256 ≡ natAbs v
   a-byte v e = let h : natAbs v ≤ 127 = within-range least 127 v e .1 .0 in omega arith
 
-  pub all-bytes : (list : List ℤ) → every (within least 127) list ≡ true → lowBytes list ≡ bytesOf list
+  pub all-bytes : (list : List ℤ) → every (within least 127) list ≡ true → lowBytes list ≡ asBytes list
   all-bytes [] e = refl
   all-bytes (v ∷ list) e =
       let ok = every-split (within least 127) v list e in

@@ -13,12 +13,12 @@ abbrev pub areCharacters : List ℤ → Bool
 areCharacters vs = every isCharacter vs
 
 -- entries as bytes, and bytes as entries
-abbrev pub bytesOf : List ℤ → List ℕ
-bytesOf vs = map natAbs vs
+abbrev pub asBytes : List ℤ → List ℕ
+asBytes vs = map natAbs vs
 
 -- the same where an entry may be no byte: of its magnitude the lowest eight bits
 abbrev pub lowBytes : List ℤ → List ℕ
 lowBytes vs = map (λ v. natAbs v % 256) vs
 
-abbrev pub entriesOf : List ℕ → List ℤ
-entriesOf bs = map pos bs
+abbrev pub asEntries : List ℕ → List ℤ
+asEntries bs = map pos bs

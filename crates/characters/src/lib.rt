@@ -31,7 +31,7 @@ pub fn entry_of(b: u8) -> i32
 }
 
 // The bytes of the entries into `out` from `at` on, as far as there is room: nothing is asked between one and the next.
-pub fn lay(list: &[i32], out: &mut [u8], at: usize)
+pub fn copy(list: &[i32], out: &mut [u8], at: usize)
     ensures { λ _. ⌜ now (out .exit) ≡ sets (now (out .entry)) at (lowBytes (now (list .entry))) ⌝ }
 {
     let count = wire::in_room(list.len(), out.len(), at);

@@ -13,7 +13,7 @@ use Rattle.refusals.specs.Answers.{pick}
 use Rattle.refusals.proofs.Cases.{zero-one}
 use Rattle.memory.specs.declared.Point.{Point}
 use Rattle.numbers.specs.Integers.{isNegative}
-use Rattle.coordinates.specs.Coordinates.{coordinateOf, pointOf, outside}
+use Rattle.coordinates.specs.Coordinates.{coordinateOf, pointGiven, outside}
 
 below : (v : ℤ) → isNegative v ≡ true → outside ≡ coordinateOf v
 unfolding coordinateOf
@@ -45,9 +45,9 @@ module _ (v : ℤ) (f : SFits w32 v) {s : Bool} (es : s ≡ isNegative (toZ w32 
 pub ruleset sides = (negative, above, inside)
 
 -- both coordinates
-pub point-given : (x y : ℤ) → SFits w32 x → SFits w32 y → {p : Point} → p ≡ pointOf (toZ w32 (ofZ w32 x)) (toZ w32 (ofZ w32 y)) → p ≡ pointOf x y
+pub point-given : (x y : ℤ) → SFits w32 x → SFits w32 y → {p : Point} → p ≡ pointGiven (toZ w32 (ofZ w32 x)) (toZ w32 (ofZ w32 y)) → p ≡ pointGiven x y
 point-given x y fx fy e = e ∙ rw (toZ-ofZ fx, toZ-ofZ fy)
 
 pub point-so : (x y : ℤ) → SFits w32 x → SFits w32 y → {a b : ℕ} → a ≡ coordinateOf (toZ w32 (ofZ w32 x)) → b ≡ coordinateOf (toZ w32 (ofZ w32 y))
-    → _≡_ {A = Point} (record { x = a; y = b }) (pointOf x y)
+    → _≡_ {A = Point} (record { x = a; y = b }) (pointGiven x y)
 point-so x y fx fy ea eb = point-given x y fx fy (rw (ea, eb))

@@ -12,5 +12,5 @@ unfoldable pub coordinateOf : ℤ → ℕ
 coordinateOf (pos n) = pick (leb n 4095) n outside
 coordinateOf (negsuc n) = outside
 
-abbrev pub pointOf : (x y : ℤ) → Point
-pointOf x y = record { x = coordinateOf x; y = coordinateOf y }
+abbrev pub pointGiven : (x y : ℤ) → Point
+pointGiven x y = record { x = coordinateOf x; y = coordinateOf y }

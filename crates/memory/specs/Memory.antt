@@ -10,12 +10,12 @@ abbrev pub freshMemory : Remembered
 freshMemory = record { point = record { x = 0; y = 0 } }
 
 -- the largest coordinate of a point
-abbrev pub limit : ℕ
-limit = 4095
+abbrev pub mostCoordinate : ℕ
+mostCoordinate = 4095
 
 -- "x and y 0..4095"
 abbrev pub inside : Point → Bool
-inside p = leb (p .x) limit && leb (p .y) limit
+inside p = leb (p .x) mostCoordinate && leb (p .y) mostCoordinate
 
 -- what is remembered once this point has been read or written
 abbrev pub remember : Remembered → Point → Remembered

@@ -14,7 +14,7 @@ use Rattle.refusals.specs.declared.Refusal.the-variants.{IntegerOutside}
 use Rattle.refusals.specs.Answers.{Answer, Read, done, refused}
 use Rattle.wire.specs.Taking.{byteAt, threeAhead}
 use Rattle.wire.proofs.Feeds.{room-ahead, first-ahead, second-ahead, third-ahead, itself-range, itself-taken}
-use Rattle.numbers.specs.declared.IntegerRead.the-variants.{NoInteger}
+use Rattle.numbers.specs.declared.IntegerRead.the-variants.{Refused}
 use Rattle.numbers.specs.Integers.{integerOf, integerFrom, integerAt, lowByte}
 use Rattle.numbers.specs.Three.{highsBefore, highValue}
 use Rattle.numbers.proofs.Reading.{low-byte, high-byte, third-high}
@@ -155,7 +155,7 @@ module _ (kept : Remembered) (s : List ℕ) (at : ℕ) (e : threeAhead s at ≡ 
     pub low-ahead : {h : ℕ} {q : Answer (Read ℤ)} → getD s (at + n) 0 < 64 → h ≡ highValue (getD s at 0) (getD s (at + 1) 0) → q ≡ lowByte h (getD s (at + n) 0) (at + n) (at + n + 1) → q ≡ integerAt kept s at
     low-ahead l eh j = (rw (eh, en) at j) ∙ sym (three-low (rw en at l))
 
-    pub high-ahead : 64 ≤ getD s (at + n) 0 → integerOf (NoInteger IntegerOutside (at + n)) ≡ integerAt kept s at
+    pub high-ahead : 64 ≤ getD s (at + n) 0 → integerOf (Refused IntegerOutside (at + n)) ≡ integerAt kept s at
     unfolding integerOf
     high-ahead l = rw en (sym (three-high (rw en at l)))
 

@@ -14,7 +14,7 @@ use Rattle.refusals.specs.Answers.{Answer, done, refused, Read, Reads}
 use Rattle.wire.specs.Taking.{byteAt}
 use Rattle.wire.specs.Sending.{sent}
 use Rattle.wire.proofs.Feeds.{Feeds, Plain, Stands, stands-between, sent-taken}
-use Rattle.numbers.specs.Integers.{integerFrom, integerAt, lowByte, inRange, signedOf, isNegative, limit, lowOf, spellOf, spell, isInteger}
+use Rattle.numbers.specs.Integers.{integerFrom, integerAt, lowByte, inRange, signedOf, isNegative, mostMagnitude, lowOf, spellOf, spell, isInteger}
 use Rattle.numbers.specs.Counts.{countIn, countAt}
 use Rattle.numbers.proofs.Reading.{low-byte, high-byte}
 use Rattle.numbers.proofs.Spelling.{spell-one, spell-two, spell-three}
@@ -28,7 +28,7 @@ ways {P} h f g k = by (decLt h 1) (decLt h 64)
     by (no a) (yes l) = g (λ e. a (omega arith)) l
     by (no a) (no l) = k (omega arith)
 
-pub limit-least : (t : Bool) → limit t ≤ 32768
+pub limit-least : (t : Bool) → mostMagnitude t ≤ 32768
 limit-least true = omega arith
 limit-least false = omega arith
 
@@ -54,15 +54,15 @@ signed-back (negsuc n) = refl
 -- ---- the bytes of a spelling, taken one by one
 
 module _ (kept : Remembered) (s : List ℕ) where
-  fed-low : (k h at p n m : ℕ) (t : Bool) → byteAt kept s at ≡ done (record { value = lowOf m t; place = p; next = n }) → h ≡ m / 16 → m ≤ limit t → integerFrom kept k h s at ≡ done (record { value = signedOf m t; place = p; next = n })
+  fed-low : (k h at p n m : ℕ) (t : Bool) → byteAt kept s at ≡ done (record { value = lowOf m t; place = p; next = n }) → h ≡ m / 16 → m ≤ mostMagnitude t → integerFrom kept k h s at ≡ done (record { value = signedOf m t; place = p; next = n })
   fed-low k h at p n m t e x l =
-      low-byte kept s at e k h (low-range m t .1) ∙ low-back h m t p n x ∙ rw (le-leb m (limit t) l)
+      low-byte kept s at e k h (low-range m t .1) ∙ low-back h m t p n x ∙ rw (le-leb m (mostMagnitude t) l)
 
   fed-high : (k h at p n x : ℕ) → byteAt kept s at ≡ done (record { value = 64 + x; place = p; next = n }) → x < 64 → integerFrom kept (suc k) h s at ≡ integerFrom kept k (h * 64 + x) s n
   fed-high k h at p n x e l =
       high-byte kept s at e k h (omega arith) ∙ ap (λ (y : ℕ). integerFrom kept k (h * 64 + y) s n) (omega arith)
 
-  module _ (at n m : ℕ) (t : Bool) (l : m ≤ limit t) where
+  module _ (at n m : ℕ) (t : Bool) (l : m ≤ mostMagnitude t) where
     fed-one : m / 16 ≡ 0 → Feeds kept s at (lowOf m t ∷ []) n → Reads (signedOf m t) n (integerAt kept s at)
     unfolding Reads
     fed-one h (p, (k, (e, z))) = rw (fed-low 2 0 at p k m t e (omega arith) l) (refl, z)
@@ -85,7 +85,7 @@ module _ (kept : Remembered) (s : List ℕ) where
         (λ h g. fed-two g (rw (← spell-two m t refl h g) at f))
         (λ h. fed-three (rw (← spell-three m t refl h) at f))
 
-pub spell-plain : (m : ℕ) (t : Bool) → m ≤ limit t → Plain (spellOf m t)
+pub spell-plain : (m : ℕ) (t : Bool) → m ≤ mostMagnitude t → Plain (spellOf m t)
 spell-plain m t l =
     let q = limit-least t in
     let r = low-range m t in
@@ -97,8 +97,8 @@ spell-plain m t l =
 -- ---- integers
 
 module _ (kept : Remembered) (v : ℤ) (ok : isInteger v ≡ true) where
-  fits : natAbs v ≤ limit (isNegative v)
-  fits = leb-true (natAbs v) (limit (isNegative v)) ok
+  fits : natAbs v ≤ mostMagnitude (isNegative v)
+  fits = leb-true (natAbs v) (mostMagnitude (isNegative v)) ok
 
   pub integer-plain : Plain (spell v)
   integer-plain = spell-plain (natAbs v) (isNegative v) fits

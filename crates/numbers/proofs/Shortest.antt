@@ -14,7 +14,7 @@ use Rattle.refusals.proofs.Cases.{by-pick, by-then, Done, done-of, is-done, not
 use Rattle.wire.specs.Taking.{byteAt}
 use Rattle.wire.specs.Sending.{sent}
 use Rattle.wire.proofs.Feeds.{took}
-use Rattle.numbers.specs.Integers.{integerFrom, integerAt, inRange, signedOf, isNegative, limit, lowOf, highsOf, spellOf, spell, isInteger}
+use Rattle.numbers.specs.Integers.{integerFrom, integerAt, inRange, signedOf, isNegative, mostMagnitude, lowOf, highsOf, spellOf, spell, isInteger}
 use Rattle.numbers.specs.Counts.{asCount, countIn, countAt}
 use Rattle.numbers.proofs.Spelling.{spell-one, spell-two, spell-three}
 use Rattle.numbers.proofs.RoundTrip.{ways}
@@ -45,7 +45,7 @@ spelled-long m t =
     ap (λ (k : ℕ). length (spellOf k (isNegative (signedOf m t)))) (magnitude-back m t) ∙ signless m (isNegative (signedOf m t)) t
 
 -- a magnitude in its range, with its sign, is an integer; minus nought is 0
-integer-made : (m : ℕ) (t : Bool) → m ≤ limit t → isInteger (signedOf m t) ≡ true
+integer-made : (m : ℕ) (t : Bool) → m ≤ mostMagnitude t → isInteger (signedOf m t) ≡ true
 integer-made zero true h = refl
 integer-made (suc m) true h = le-leb (suc m) 32768 h
 integer-made m false h = le-leb m 32767 h
@@ -64,9 +64,9 @@ module _ (kept : Remembered) (s : List ℕ) (at : ℕ) where
   in-range : (m : ℕ) (t : Bool) (p n : ℕ) → at + length (spellOf m t) ≤ n → at < n → n ≤ length s → Good (inRange m t p n)
   unfolding sent
   in-range m t p n h f w =
-      by-pick Good (leb m (limit t)) _ _
+      by-pick Good (leb m (mostMagnitude t)) _ _
       (λ e. is-done (Shown kept s at) (record {
-        writable = integer-made m t (leb-true m (limit t) e);
+        writable = integer-made m t (leb-true m (mostMagnitude t) e);
         shortest = rw (spelled-long m t) h;
         forward = f;
         within = w;

@@ -17,9 +17,9 @@ use Rattle.wire.specs.declared.Written.{Written}
 use Rattle.wire.specs.declared.Written.the-variants.{Next}
 use Rattle.wire.specs.Sending.{sent, writtenOf, roomFor, afterWrite, poured}
 use Rattle.wire.proofs.Laying.{poured-so, poured-stands}
-use Rattle.numbers.specs.Integers.{isNegative, limit, spellOf, spell, isInteger, writeInteger}
+use Rattle.numbers.specs.Integers.{isNegative, mostMagnitude, spellOf, spell, isInteger, writeInteger}
 
-pub under-limit : (t : Bool) {k m : ℕ} → k ≡ limit t → m ≤ k → m ≤ 32768
+pub under-limit : (t : Bool) {k m : ℕ} → k ≡ mostMagnitude t → m ≤ k → m ≤ 32768
 under-limit true e h = omega arith
 under-limit false e h = omega arith
 
@@ -31,16 +31,16 @@ module _ (v : ℤ) (f : SFits w32 v) {m : ℕ} {t : Bool} (et : t ≡ isNegative
   pub size-is : m ≡ natAbs v
   size-is = rw (toZ-ofZ f) at em
 
-  pub not-integer : {k : ℕ} → k ≡ limit t → k < m → isInteger v ≡ false
+  pub not-integer : {k : ℕ} → k ≡ mostMagnitude t → k < m → isInteger v ≡ false
   not-integer {k} ek h = rw (← size-is, ← sign-is, ← ek, lt-leb m k h)
 
-  pub an-integer : {k : ℕ} → k ≡ limit t → m ≤ k → isInteger v ≡ true
+  pub an-integer : {k : ℕ} → k ≡ mostMagnitude t → m ≤ k → isInteger v ≡ true
   an-integer {k} ek h = rw (← size-is, ← sign-is, ← ek, le-leb m k h)
 
   pub integer-spelled : {w : List ℕ} → w ≡ spellOf m t → w ≡ spell v
   integer-spelled e = e ∙ rw (size-is, sign-is)
 
-  pub integer-tested : {k : ℕ} → k ≡ limit t → leb m k ≡ isInteger v
+  pub integer-tested : {k : ℕ} → k ≡ mostMagnitude t → leb m k ≡ isInteger v
   integer-tested ek = rw (← size-is, ← sign-is, ← ek)
 
 -- ---- written by pouring

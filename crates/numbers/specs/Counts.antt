@@ -9,12 +9,12 @@ use Rattle.refusals.specs.Answers.{Answer, done, refused, Read, then, pick}
 use Rattle.wire.specs.Sending.{sent, writeIf}
 use Rattle.numbers.specs.Integers.{integerAt, isNegative, spell}
 use Rattle.numbers.specs.declared.CountRead.{CountRead}
-use Rattle.numbers.specs.declared.CountRead.the-variants.{Count, NoCount}
+use Rattle.numbers.specs.declared.CountRead.the-variants.{Count, Refused}
 
 -- what the answer says
 unfoldable pub countOf : CountRead → Answer (Read ℕ)
-countOf (Count c p n) = done (record { value = c; place = p; next = n })
-countOf (NoCount e p) = refused (numberOf e) p
+countOf (Count c) = done (record { value = c .value; place = c .place; next = c .next })
+countOf (Refused e p) = refused (numberOf e) p
 
 -- the most entries of a string or an array
 abbrev pub mostEntries : ℕ

@@ -11,12 +11,12 @@ use Rattle.refusals.specs.Answers.{Answer, done, refused, Read, then, pick}
 use Rattle.wire.specs.Taking.{byteAt}
 use Rattle.wire.specs.Sending.{sent, writeIf}
 use Rattle.numbers.specs.declared.IntegerRead.{IntegerRead}
-use Rattle.numbers.specs.declared.IntegerRead.the-variants.{Integer, NoInteger}
+use Rattle.numbers.specs.declared.IntegerRead.the-variants.{Integer, Refused}
 
 -- what the answer says
 unfoldable pub integerOf : IntegerRead → Answer (Read ℤ)
-integerOf (Integer v p n) = done (record { value = v; place = p; next = n })
-integerOf (NoInteger e p) = refused (numberOf e) p
+integerOf (Integer i) = done (record { value = i .value; place = i .place; next = i .next })
+integerOf (Refused e p) = refused (numberOf e) p
 
 -- the number of a magnitude and a sign
 abbrev pub signedOf : ℕ → Bool → ℤ
@@ -28,16 +28,16 @@ isNegative (pos n) = false
 isNegative (negsuc n) = true
 
 -- the largest magnitude of a negative integer, and of another
-abbrev pub limit : Bool → ℕ
-limit true = 32768
-limit false = 32767
+abbrev pub mostMagnitude : Bool → ℕ
+mostMagnitude true = 32768
+mostMagnitude false = 32767
 
 -- ---- reading
 
 -- "integer out of range (place: its low byte)"
 abbrev pub inRange : ℕ → Bool → ℕ → ℕ → Answer (Read ℤ)
 inRange m negative p n =
-    pick (leb m (limit negative)) (done (record { value = signedOf m negative; place = p; next = n })) (refused 4 p)
+    pick (leb m (mostMagnitude negative)) (done (record { value = signedOf m negative; place = p; next = n })) (refused 4 p)
 
 -- the low byte b, at p, after high bytes of value h
 abbrev pub lowByte : ℕ → ℕ → ℕ → ℕ → Answer (Read ℤ)
@@ -74,7 +74,7 @@ spell v = spellOf (natAbs v) (isNegative v)
 
 -- "Range -32768..32767"
 abbrev pub isInteger : ℤ → Bool
-isInteger v = leb (natAbs v) (limit (isNegative v))
+isInteger v = leb (natAbs v) (mostMagnitude (isNegative v))
 
 abbrev pub writeInteger : Remembered → ℤ → ℕ → ℕ → Answer ℕ
 writeInteger kept v room at = writeIf (isInteger v) (sent kept (spell v)) room at

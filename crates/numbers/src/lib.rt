@@ -8,7 +8,7 @@ ghost use lib.Dec.{leb};
 ghost use lib.IntN.{natAbs, pos};
 ghost use Rattle.wire.specs.Taking.{threeAhead};
 ghost use Rattle.wire.specs.Sending.{sent, afterWrite, writtenOf, poured};
-ghost use Rattle.numbers.specs.Integers.{signedOf, isNegative, limit, lowByte, integerFrom, integerAt, integerOf, lowOf, spellOf, spell, isInteger, writeInteger};
+ghost use Rattle.numbers.specs.Integers.{signedOf, isNegative, mostMagnitude, lowByte, integerFrom, integerAt, integerOf, lowOf, spellOf, spell, isInteger, writeInteger};
 ghost use Rattle.numbers.specs.Three.{highsBefore, highValue};
 ghost use Rattle.numbers.specs.Counts.{countIn, countAt, countOf, mostEntries, writeCount};
 use memory::Remembered;
@@ -19,18 +19,30 @@ use wire::Written;
 // "A count is an integer 0..256."
 const MOST_ENTRIES: usize = 256;
 
+// An integer that was read, the place of its low byte, and where reading goes on.
+pub struct TakenInteger {
+    pub value: i32,
+    pub place: usize,
+    pub next: usize,
+}
+
 pub enum IntegerRead {
-    // the value, the place of its low byte, and where reading goes on
-    Integer(i32, usize, usize),
+    Integer(TakenInteger),
     // the refusal and its place
-    NoInteger(Refusal, usize),
+    Refused(Refusal, usize),
+}
+
+// The same for a count.
+pub struct TakenCount {
+    pub value: usize,
+    pub place: usize,
+    pub next: usize,
 }
 
 pub enum CountRead {
-    // the count, the place of its low byte, and where reading goes on
-    Count(usize, usize, usize),
+    Count(TakenCount),
     // the refusal and its place
-    NoCount(Refusal, usize),
+    Refused(Refusal, usize),
 }
 
 // The number of a magnitude and a sign. Any magnitude of 16 bits has room, so nothing is negated in 16 bits.
@@ -63,8 +75,8 @@ pub fn is_negative(v: i32) -> bool
 }
 
 // The largest magnitude of a negative integer, and of another.
-fn limit_of(negative: bool) -> u32
-    ensures { λ r. ⌜ r ≡ limit negative ⌝ }
+fn most_magnitude(negative: bool) -> u32
+    ensures { λ r. ⌜ r ≡ mostMagnitude negative ⌝ }
 {
     if negative {
         return 32768;
@@ -79,10 +91,15 @@ fn low_byte(high: u16, low: u8, place: usize, next: usize) -> IntegerRead
 {
     let mag = high * 16 + (low % 16) as u16;
     let negative = low < 48;
-    if mag as u32 > limit_of(negative) {
-        return IntegerRead::NoInteger(Refusal::IntegerOutside, place);
+    if mag as u32 > most_magnitude(negative) {
+        return IntegerRead::Refused(Refusal::IntegerOutside, place);
     }
-    IntegerRead::Integer(signed(mag, negative), place, next)
+    let integer = TakenInteger {
+        value: signed(mag, negative),
+        place: place,
+        next: next,
+    };
+    IntegerRead::Integer(integer)
 }
 
 // The low byte, where two high bytes of value `high` stand before it.
@@ -91,13 +108,13 @@ fn after_two(kept: Remembered, s: &[u8], at: usize, high: u16) -> IntegerRead
     ensures { λ r. ⌜ integerOf r ≡ integerFrom kept 0 high (now (s .entry)) at ⌝ }
 {
     match wire::take(kept, s, at) {
-        ByteRead::Byte(b, p, n) => {
-            if b < 64 {
-                return low_byte(high, b, p, n);
+        ByteRead::Byte(byte) => {
+            if byte.value < 64 {
+                return low_byte(high, byte.value, byte.place, byte.next);
             }
-            IntegerRead::NoInteger(Refusal::IntegerOutside, p)
+            IntegerRead::Refused(Refusal::IntegerOutside, byte.place)
         }
-        ByteRead::NoByte(e, p) => IntegerRead::NoInteger(e, p),
+        ByteRead::Refused(e, p) => IntegerRead::Refused(e, p),
     }
 }
 
@@ -107,14 +124,14 @@ fn after_one(kept: Remembered, s: &[u8], at: usize, high: u16) -> IntegerRead
     ensures { λ r. ⌜ integerOf r ≡ integerFrom kept 1 high (now (s .entry)) at ⌝ }
 {
     match wire::take(kept, s, at) {
-        ByteRead::Byte(b, p, n) => {
-            if b < 64 {
-                return low_byte(high, b, p, n);
+        ByteRead::Byte(byte) => {
+            if byte.value < 64 {
+                return low_byte(high, byte.value, byte.place, byte.next);
             }
-            let higher = high * 64 + (b % 64) as u16;
-            after_two(kept, s, n, higher)
+            let higher = high * 64 + (byte.value % 64) as u16;
+            after_two(kept, s, byte.next, higher)
         }
-        ByteRead::NoByte(e, p) => IntegerRead::NoInteger(e, p),
+        ByteRead::Refused(e, p) => IntegerRead::Refused(e, p),
     }
 }
 
@@ -123,14 +140,14 @@ fn by_bytes(kept: Remembered, s: &[u8], at: usize) -> IntegerRead
     ensures { λ r. ⌜ integerOf r ≡ integerAt kept (now (s .entry)) at ⌝ }
 {
     match wire::take(kept, s, at) {
-        ByteRead::Byte(b, p, n) => {
-            if b < 64 {
-                return low_byte(0, b, p, n);
+        ByteRead::Byte(byte) => {
+            if byte.value < 64 {
+                return low_byte(0, byte.value, byte.place, byte.next);
             }
-            let high = (b % 64) as u16;
-            after_one(kept, s, n, high)
+            let high = (byte.value % 64) as u16;
+            after_one(kept, s, byte.next, high)
         }
-        ByteRead::NoByte(e, p) => IntegerRead::NoInteger(e, p),
+        ByteRead::Refused(e, p) => IntegerRead::Refused(e, p),
     }
 }
 
@@ -177,7 +194,7 @@ fn among_three(kept: Remembered, s: &[u8], at: usize) -> IntegerRead
         let next = place + 1;
         return low_byte(high_value(a, b), low, place, next);
     }
-    IntegerRead::NoInteger(Refusal::IntegerOutside, place)
+    IntegerRead::Refused(Refusal::IntegerOutside, place)
 }
 
 pub fn read_integer(kept: Remembered, s: &[u8], at: usize) -> IntegerRead
@@ -194,17 +211,23 @@ pub fn as_count(read: IntegerRead, most: usize) -> CountRead
     ensures { λ r. ⌜ countOf r ≡ countIn most (integerOf read) ⌝ }
 {
     match read {
-        IntegerRead::Integer(v, p, n) => {
+        IntegerRead::Integer(integer) => {
+            let v = integer.value;
             if is_negative(v) {
-                return CountRead::NoCount(Refusal::CountOutside, p);
+                return CountRead::Refused(Refusal::CountOutside, integer.place);
             }
             let m = magnitude(v) as usize;
             if m <= most {
-                return CountRead::Count(m, p, n);
+                let count = TakenCount {
+                    value: m,
+                    place: integer.place,
+                    next: integer.next,
+                };
+                return CountRead::Count(count);
             }
-            CountRead::NoCount(Refusal::CountOutside, p)
+            CountRead::Refused(Refusal::CountOutside, integer.place)
         }
-        IntegerRead::NoInteger(e, p) => CountRead::NoCount(e, p),
+        IntegerRead::Refused(e, p) => CountRead::Refused(e, p),
     }
 }
 
@@ -228,7 +251,7 @@ pub fn low_of(mag: u32, negative: bool) -> u8
 pub fn is_integer(v: i32) -> bool
     ensures { λ r. ⌜ r ≡ isInteger v ⌝ }
 {
-    magnitude(v) <= limit_of(is_negative(v))
+    magnitude(v) <= most_magnitude(is_negative(v))
 }
 
 // The bytes of an integer, as far as there is room. Each byte goes to its place by itself: how many there are is asked once.
@@ -255,7 +278,7 @@ pub fn pour_integer(kept: Remembered, v: i32, out: &mut [u8], at: usize) -> usiz
 {
     let negative = is_negative(v);
     let mag = magnitude(v);
-    if mag > limit_of(negative) {
+    if mag > most_magnitude(negative) {
         return 0;
     }
     pour_magnitude(kept, mag, negative, out, at)
@@ -277,7 +300,7 @@ pub fn write_integer(kept: Remembered, v: i32, out: &mut [u8], at: usize) -> Wri
     ensures { λ r. ⌜ (writtenOf r ≡ writeInteger kept v (length (now (out .entry))) at) × (now (out .exit) ≡ afterWrite (writtenOf r) (sent kept (spell v)) (now (out .entry)) at) ⌝ }
 {
     if !is_integer(v) {
-        return Written::NotWritten(Refusal::NotValid);
+        return Written::Refused(Refusal::NotValid);
     }
     // poured into no room, which finds the length: nothing lent is touched before it is known to fit
     let mut none = [0u8; 0];
@@ -287,7 +310,7 @@ pub fn write_integer(kept: Remembered, v: i32, out: &mut [u8], at: usize) -> Wri
             pour_integer(kept, v, out, at);
             Written::Next(next)
         }
-        Written::NotWritten(e) => Written::NotWritten(e),
+        Written::Refused(e) => Written::Refused(e),
     }
 }
 
@@ -296,7 +319,7 @@ pub fn write_count(kept: Remembered, n: usize, out: &mut [u8], at: usize) -> Wri
     ensures { λ r. ⌜ (writtenOf r ≡ writeCount kept n (length (now (out .entry))) at) × (now (out .exit) ≡ afterWrite (writtenOf r) (sent kept (spell (pos n))) (now (out .entry)) at) ⌝ }
 {
     if n > MOST_ENTRIES {
-        return Written::NotWritten(Refusal::NotValid);
+        return Written::Refused(Refusal::NotValid);
     }
     // poured into no room, which finds the length: nothing lent is touched before it is known to fit
     let mut none = [0u8; 0];
@@ -306,6 +329,6 @@ pub fn write_count(kept: Remembered, n: usize, out: &mut [u8], at: usize) -> Wri
             pour_count(kept, n, out, at);
             Written::Next(next)
         }
-        Written::NotWritten(e) => Written::NotWritten(e),
+        Written::Refused(e) => Written::Refused(e),
     }
 }

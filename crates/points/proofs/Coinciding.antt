@@ -4,17 +4,17 @@ use Rattle.memory.specs.declared.Point.{Point}
 use Rattle.refusals.specs.Answers.{Answer, done, refused, Read}
 use Rattle.refusals.proofs.Coinciding.{named, named-back, coincide}
 use Rattle.points.specs.declared.PointRead.{PointRead}
-use Rattle.points.specs.declared.PointRead.the-variants.{At, NoPoint}
+use Rattle.points.specs.declared.PointRead.the-variants.{At, Refused}
 use Rattle.points.specs.Reading.{pointOf}
 
 point-back : Answer (Read Point) → PointRead
-point-back (done r) = At (r .value) (r .place) (r .next)
-point-back (refused e p) = NoPoint (named e) p
+point-back (done r) = At (record { value = r .value; place = r .place; next = r .next })
+point-back (refused e p) = Refused (named e) p
 
 point-same : (r : PointRead) → point-back (pointOf r) ≡ r
 unfolding pointOf point-back
-point-same (At v p n) = refl
-point-same (NoPoint e p) = ap (λ x. NoPoint x p) (named-back e)
+point-same (At t) = refl
+point-same (Refused e p) = ap (λ x. Refused x p) (named-back e)
 
 pub points-coincide : {x y : PointRead} {d : Answer (Read Point)} → pointOf x ≡ d → pointOf y ≡ d → x ≡ y
 points-coincide = coincide pointOf point-back point-same

@@ -14,47 +14,51 @@ use Rattle.refusals.specs.declared.Refusal.the-variants.{ByteNotAllowed, NotVal
 use Rattle.refusals.specs.Answers.{Answer, Read, refused}
 use Rattle.refusals.proofs.Cases.{and-left, and-right}
 use Rattle.wire.specs.declared.ByteRead.{ByteRead}
-use Rattle.wire.specs.declared.ByteRead.the-variants.{Byte, NoByte}
+use Rattle.wire.specs.declared.ByteRead.the-variants as ByteRead
+use Rattle.wire.specs.declared.TakenByte.{TakenByte}
 use Rattle.wire.specs.Taking.{byteAt, byteOf}
-use Rattle.points.specs.declared.PointRead.the-variants.{At, NoPoint}
+use Rattle.points.specs.declared.PointRead.the-variants as PointRead
 use Rattle.points.specs.declared.PointBytes.{PointBytes}
 use Rattle.points.specs.Layout.{Inside, bytesOf, coordinates}
 use Rattle.points.specs.Reading.{byKind, endsAt, withHiY, withLoX, pointOf, afterHiY, pointFrom, pointAt}
 
+abbrev readOf : TakenByte → Read ℕ
+readOf b = record { value = b .value; place = b .place; next = b .next }
+
 module _ (kept : Remembered) (s : List ℕ) (at : ℕ) {r : ByteRead} (e : byteOf r ≡ byteAt kept s at) (hi lo upper : Read ℕ → Answer (Read Point)) where
-  module _ {v p n : ℕ} (g : r ≡ Byte v p n) {q : Answer (Read Point)} where
-    pub kind-hi : v < 64 → q ≡ hi (record { value = v; place = p; next = n }) → q ≡ byKind kept s at hi lo upper
+  module _ {b : TakenByte} (g : r ≡ ByteRead.Byte b) {q : Answer (Read Point)} where
+    pub kind-hi : b .value < 64 → q ≡ hi (readOf b) → q ≡ byKind kept s at hi lo upper
     unfolding byKind byteOf
-    kind-hi l j = rw (← e, g, lt-ltb v 64 l) j
+    kind-hi l j = rw (← e, g, lt-ltb (b .value) 64 l) j
 
-    pub kind-lo : 64 ≤ v → v < 96 → q ≡ lo (record { value = v; place = p; next = n }) → q ≡ byKind kept s at hi lo upper
+    pub kind-lo : 64 ≤ b .value → b .value < 96 → q ≡ lo (readOf b) → q ≡ byKind kept s at hi lo upper
     unfolding byKind byteOf
-    kind-lo l m j = rw (← e, g, le-ltb v 64 l, lt-ltb v 96 m) j
+    kind-lo l m j = rw (← e, g, le-ltb (b .value) 64 l, lt-ltb (b .value) 96 m) j
 
-    pub kind-upper : 64 ≤ v → 96 ≤ v → q ≡ upper (record { value = v; place = p; next = n }) → q ≡ byKind kept s at hi lo upper
+    pub kind-upper : 64 ≤ b .value → 96 ≤ b .value → q ≡ upper (readOf b) → q ≡ byKind kept s at hi lo upper
     unfolding byKind byteOf
-    kind-upper l m j = rw (← e, g, le-ltb v 64 l, le-ltb v 96 m) j
+    kind-upper l m j = rw (← e, g, le-ltb (b .value) 64 l, le-ltb (b .value) 96 m) j
 
-  pub kind-none : {x : Refusal} {p : ℕ} → r ≡ NoByte x p → pointOf (NoPoint x p) ≡ byKind kept s at hi lo upper
+  pub kind-none : {x : Refusal} {p : ℕ} → r ≡ ByteRead.Refused x p → pointOf (PointRead.Refused x p) ≡ byKind kept s at hi lo upper
   unfolding byKind byteOf pointOf
   kind-none g = rw (← e, g)
 
-pub not-allowed : (p : ℕ) → pointOf (NoPoint ByteNotAllowed p) ≡ refused 3 p
+pub not-allowed : (p : ℕ) → pointOf (PointRead.Refused ByteNotAllowed p) ≡ refused 3 p
 unfolding pointOf
 not-allowed p = refl
 
 -- ---- HiY, or none: the rest is read alike
 
 module _ (kept : Remembered) (s : List ℕ) (at : ℕ) {r : ByteRead} (e : byteOf r ≡ byteAt kept s at) (b : PointBytes) where
-  pub a-hi-y : {v p n : ℕ} → r ≡ Byte v p n → v < 64 → afterHiY kept (withHiY b v) s n ≡ pointFrom kept b s at
+  pub a-hi-y : {c : TakenByte} → r ≡ ByteRead.Byte c → c .value < 64 → afterHiY kept (withHiY b (c .value)) s (c .next) ≡ pointFrom kept b s at
   unfolding pointFrom byKind byteOf
-  a-hi-y {v} g l = rw (← e, g, lt-ltb v 64 l)
+  a-hi-y {c} g l = rw (← e, g, lt-ltb (c .value) 64 l)
 
-  pub no-hi-y : {v p n : ℕ} → r ≡ Byte v p n → 64 ≤ v → afterHiY kept b s at ≡ pointFrom kept b s at
+  pub no-hi-y : {c : TakenByte} → r ≡ ByteRead.Byte c → 64 ≤ c .value → afterHiY kept b s at ≡ pointFrom kept b s at
   unfolding pointFrom afterHiY byKind byteOf
-  no-hi-y {v} g l = rw (← e, g, le-ltb v 64 l)
+  no-hi-y {c} g l = rw (← e, g, le-ltb (c .value) 64 l)
 
-  pub no-byte-yet : {x : Refusal} {p : ℕ} → r ≡ NoByte x p → afterHiY kept b s at ≡ pointFrom kept b s at
+  pub no-byte-yet : {x : Refusal} {p : ℕ} → r ≡ ByteRead.Refused x p → afterHiY kept b s at ≡ pointFrom kept b s at
   unfolding pointFrom afterHiY byKind byteOf
   no-byte-yet g = rw (← e, g)
 
@@ -73,7 +77,7 @@ made-of b ex ey = rw (ex, ey)
 
 -- ---- the last byte, and the remembered point
 
-pub ending : (b : PointBytes) (v p n : ℕ) {x : Point} → x ≡ coordinates (withLoX b v) → pointOf (At x p n) ≡ endsAt b v p n
+pub ending : (b : PointBytes) (v p n : ℕ) {x : Point} → x ≡ coordinates (withLoX b v) → pointOf (PointRead.At (record { value = x; place = p; next = n })) ≡ endsAt b v p n
 unfolding pointOf endsAt
 ending b v p n e = rw e
 
@@ -97,6 +101,6 @@ module _ (kept : Remembered) (s : List ℕ) (at : ℕ) {t : Bool} (e : t ≡ ins
   unfolding pointAt
   from-last g k j = rw (← e, g, ← k) j
 
-  pub last-outside : t ≡ false → pointOf (NoPoint NotValid 0) ≡ pointAt kept s at
+  pub last-outside : t ≡ false → pointOf (PointRead.Refused NotValid 0) ≡ pointAt kept s at
   unfolding pointAt pointOf
   last-outside g = rw (← e, g)

@@ -11,13 +11,13 @@ use Rattle.refusals.specs.Answers.{Answer, done, refused, Read, then, pick}
 use Rattle.wire.specs.Taking.{byteAt}
 use Rattle.points.specs.declared.PointBytes.{PointBytes}
 use Rattle.points.specs.declared.PointRead.{PointRead}
-use Rattle.points.specs.declared.PointRead.the-variants.{At, NoPoint}
+use Rattle.points.specs.declared.PointRead.the-variants.{At, Refused}
 use Rattle.points.specs.Layout.{bytesOf, coordinates}
 
 -- what the answer says
 unfoldable pub pointOf : PointRead → Answer (Read Point)
-pointOf (At v p n) = done (record { value = v; place = p; next = n })
-pointOf (NoPoint e p) = refused (numberOf e) p
+pointOf (At t) = done (record { value = t .value; place = t .place; next = t .next })
+pointOf (Refused e p) = refused (numberOf e) p
 
 -- the next byte, by its kind: 32..63 is HiY or HiX, 64..95 is LoX, 96..127 is Extra or LoY
 unfoldable pub byKind : Remembered → List ℕ → ℕ → (hi lo upper : Read ℕ → Answer (Read Point)) → Answer (Read Point)

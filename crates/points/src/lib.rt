@@ -15,11 +15,17 @@ use refusals::Refusal;
 use wire::ByteRead;
 use wire::Written;
 
+// A point that was read, the place of its LoX, and where reading goes on.
+pub struct TakenPoint {
+    pub value: Point,
+    pub place: usize,
+    pub next: usize,
+}
+
 pub enum PointRead {
-    // the point, the place of its LoX, and where reading goes on
-    At(Point, usize, usize),
+    At(TakenPoint),
     // the refusal and its place
-    NoPoint(Refusal, usize),
+    Refused(Refusal, usize),
 }
 
 // The bytes of a point, in the order in which they are sent.
@@ -111,8 +117,12 @@ fn ends(b: PointBytes, lox: u8, place: usize, next: usize) -> PointRead
 {
     let mut all = b;
     all.lox = lox;
-    let point = point_of(all);
-    PointRead::At(point, place, next)
+    let point = TakenPoint {
+        value: point_of(all),
+        place: place,
+        next: next,
+    };
+    PointRead::At(point)
 }
 
 // Only LoX is left.
@@ -120,16 +130,16 @@ fn last(kept: Remembered, b: PointBytes, s: &[u8], at: usize) -> PointRead
     ensures { λ r. ⌜ pointOf r ≡ lastAt kept b (now (s .entry)) at ⌝ }
 {
     match wire::take(kept, s, at) {
-        ByteRead::Byte(v, p, n) => {
-            if v < 64 {
-                return PointRead::NoPoint(Refusal::ByteNotAllowed, p);
+        ByteRead::Byte(byte) => {
+            if byte.value < 64 {
+                return PointRead::Refused(Refusal::ByteNotAllowed, byte.place);
             }
-            if v < 96 {
-                return ends(b, v, p, n);
+            if byte.value < 96 {
+                return ends(b, byte.value, byte.place, byte.next);
             }
-            PointRead::NoPoint(Refusal::ByteNotAllowed, p)
+            PointRead::Refused(Refusal::ByteNotAllowed, byte.place)
         }
-        ByteRead::NoByte(e, p) => PointRead::NoPoint(e, p),
+        ByteRead::Refused(e, p) => PointRead::Refused(e, p),
     }
 }
 
@@ -138,18 +148,18 @@ fn after_lo_y(kept: Remembered, b: PointBytes, s: &[u8], at: usize) -> PointRead
     ensures { λ r. ⌜ pointOf r ≡ afterLoY kept b (now (s .entry)) at ⌝ }
 {
     match wire::take(kept, s, at) {
-        ByteRead::Byte(v, p, n) => {
-            if v < 64 {
+        ByteRead::Byte(byte) => {
+            if byte.value < 64 {
                 let mut more = b;
-                more.hix = v;
-                return last(kept, more, s, n);
+                more.hix = byte.value;
+                return last(kept, more, s, byte.next);
             }
-            if v < 96 {
-                return ends(b, v, p, n);
+            if byte.value < 96 {
+                return ends(b, byte.value, byte.place, byte.next);
             }
-            PointRead::NoPoint(Refusal::ByteNotAllowed, p)
+            PointRead::Refused(Refusal::ByteNotAllowed, byte.place)
         }
-        ByteRead::NoByte(e, p) => PointRead::NoPoint(e, p),
+        ByteRead::Refused(e, p) => PointRead::Refused(e, p),
     }
 }
 
@@ -159,21 +169,21 @@ fn after_upper(kept: Remembered, b: PointBytes, upper: u8, s: &[u8], at: usize) 
 {
     let mut more = b;
     match wire::take(kept, s, at) {
-        ByteRead::Byte(v, p, n) => {
-            if v < 64 {
+        ByteRead::Byte(byte) => {
+            if byte.value < 64 {
                 more.loy = upper;
-                more.hix = v;
-                return last(kept, more, s, n);
+                more.hix = byte.value;
+                return last(kept, more, s, byte.next);
             }
-            if v < 96 {
+            if byte.value < 96 {
                 more.loy = upper;
-                return ends(more, v, p, n);
+                return ends(more, byte.value, byte.place, byte.next);
             }
             more.extra = upper;
-            more.loy = v;
-            after_lo_y(kept, more, s, n)
+            more.loy = byte.value;
+            after_lo_y(kept, more, s, byte.next)
         }
-        ByteRead::NoByte(e, p) => PointRead::NoPoint(e, p),
+        ByteRead::Refused(e, p) => PointRead::Refused(e, p),
     }
 }
 
@@ -181,16 +191,16 @@ fn after_hi_y(kept: Remembered, b: PointBytes, s: &[u8], at: usize) -> PointRead
     ensures { λ r. ⌜ pointOf r ≡ afterHiY kept b (now (s .entry)) at ⌝ }
 {
     match wire::take(kept, s, at) {
-        ByteRead::Byte(v, p, n) => {
-            if v < 64 {
-                return PointRead::NoPoint(Refusal::ByteNotAllowed, p);
+        ByteRead::Byte(byte) => {
+            if byte.value < 64 {
+                return PointRead::Refused(Refusal::ByteNotAllowed, byte.place);
             }
-            if v < 96 {
-                return ends(b, v, p, n);
+            if byte.value < 96 {
+                return ends(b, byte.value, byte.place, byte.next);
             }
-            after_upper(kept, b, v, s, n)
+            after_upper(kept, b, byte.value, s, byte.next)
         }
-        ByteRead::NoByte(e, p) => PointRead::NoPoint(e, p),
+        ByteRead::Refused(e, p) => PointRead::Refused(e, p),
     }
 }
 
@@ -199,18 +209,18 @@ fn past_hi_y(kept: Remembered, b: PointBytes, s: &[u8], at: usize) -> Start
     ensures { λ r. ⌜ afterHiY kept (r .bytes) (now (s .entry)) (r .from) ≡ pointFrom kept b (now (s .entry)) at ⌝ }
 {
     match wire::take(kept, s, at) {
-        ByteRead::Byte(v, _, n) => {
-            if v < 64 {
+        ByteRead::Byte(byte) => {
+            if byte.value < 64 {
                 let mut more = b;
-                more.hiy = v;
+                more.hiy = byte.value;
                 return Start {
                     bytes: more,
-                    from: n,
+                    from: byte.next,
                 };
             }
             Start { bytes: b, from: at }
         }
-        ByteRead::NoByte(_, _) => Start { bytes: b, from: at },
+        ByteRead::Refused(_, _) => Start { bytes: b, from: at },
     }
 }
 
@@ -233,7 +243,7 @@ pub fn read_point(kept: Remembered, s: &[u8], at: usize) -> PointRead
         let b = bytes_of(remembered);
         return from_start(kept, b, s, at);
     }
-    PointRead::NoPoint(Refusal::NotValid, 0)
+    PointRead::Refused(Refusal::NotValid, 0)
 }
 
 // ---- writing
@@ -308,7 +318,7 @@ pub fn write_point(kept: Remembered, point: Point, out: &mut [u8], at: usize) ->
 {
     let remembered = kept.point;
     if !are_inside(remembered, point) {
-        return Written::NotWritten(Refusal::NotValid);
+        return Written::Refused(Refusal::NotValid);
     }
     // poured into no room, which finds the length: nothing lent is touched before it is known to fit
     let mut none = [0u8; 0];
@@ -318,6 +328,6 @@ pub fn write_point(kept: Remembered, point: Point, out: &mut [u8], at: usize) ->
             pour_point(kept, point, out, at);
             Written::Next(next)
         }
-        Written::NotWritten(e) => Written::NotWritten(e),
+        Written::Refused(e) => Written::Refused(e),
     }
 }

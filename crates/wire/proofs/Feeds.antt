@@ -14,7 +14,8 @@ use Rattle.refusals.specs.Refusals.{numberOf}
 use Rattle.refusals.specs.Answers.{Answer, done, refused, Read, pick}
 use Rattle.refusals.proofs.Cases.{by-pick, and-left, and-right, Done, done-of, is-done, not-done}
 use Rattle.wire.specs.declared.ByteRead.{ByteRead}
-use Rattle.wire.specs.declared.ByteRead.the-variants.{Byte, NoByte}
+use Rattle.wire.specs.declared.TakenByte.{TakenByte}
+use Rattle.wire.specs.declared.ByteRead.the-variants.{Byte, Refused}
 use Rattle.wire.specs.Taking.{byteAt, byteOf, pairAt, isItself, threeAhead}
 use Rattle.wire.specs.Sending.{sent}
 
@@ -44,11 +45,11 @@ stands-right s at a w st = record {
 }
 
 -- what a caller of `take` has in hand
-pub byte-given : (kept : Remembered) (s : List ℕ) (at : ℕ) {r : ByteRead} {b p n : ℕ} → byteOf r ≡ byteAt kept s at → r ≡ Byte b p n → byteAt kept s at ≡ done (record { value = b; place = p; next = n })
+pub byte-given : (kept : Remembered) (s : List ℕ) (at : ℕ) {r : ByteRead} {b : TakenByte} → byteOf r ≡ byteAt kept s at → r ≡ Byte b → byteAt kept s at ≡ done (record { value = b .value; place = b .place; next = b .next })
 unfolding byteOf
 byte-given kept s at e g = sym e ∙ rw g
 
-pub none-given : (kept : Remembered) (s : List ℕ) (at : ℕ) {r : ByteRead} {x : Refusal} {p : ℕ} → byteOf r ≡ byteAt kept s at → r ≡ NoByte x p → byteAt kept s at ≡ refused (numberOf x) p
+pub none-given : (kept : Remembered) (s : List ℕ) (at : ℕ) {r : ByteRead} {x : Refusal} {p : ℕ} → byteOf r ≡ byteAt kept s at → r ≡ Refused x p → byteAt kept s at ≡ refused (numberOf x) p
 unfolding byteOf
 none-given kept s at e g = sym e ∙ rw g
 

@@ -6,7 +6,7 @@ use Rattle.refusals.specs.declared.Refusal.{Refusal}
 use Rattle.refusals.specs.Refusals.{numberOf}
 use Rattle.refusals.specs.Answers.{Answer, number, valueOr}
 use Rattle.wire.specs.declared.Written.{Written}
-use Rattle.wire.specs.declared.Written.the-variants.{Next, NotWritten}
+use Rattle.wire.specs.declared.Written.the-variants.{Next, Refused}
 use Rattle.wire.specs.Sending.{writtenOf, afterWrite}
 
 module _ (r : Written) {d : Answer ℕ} (e : writtenOf r ≡ d) where
@@ -23,7 +23,7 @@ module _ {r : Written} {d : Answer ℕ} (e : writtenOf r ≡ d) where
     unfolding writtenOf valueOr
     written-next = rw (sym e, g)
 
-  module _ {f : Refusal} (g : r ≡ NotWritten f) where
+  module _ {f : Refusal} (g : r ≡ Refused f) where
     pub written-refused : {k : ℕ} → k ≡ numberOf f → k ≡ number d
     unfolding writtenOf number
     written-refused j = rw (sym e, g) j

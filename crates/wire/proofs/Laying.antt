@@ -18,7 +18,7 @@ use Rattle.refusals.proofs.Many.{past-end, sets-append}
 use Rattle.refusals.specs.declared.Refusal.{Refusal}
 use Rattle.refusals.specs.declared.Refusal.the-variants.{TooShort, NotValid}
 use Rattle.wire.specs.declared.Written.{Written}
-use Rattle.wire.specs.declared.Written.the-variants.{Next, NotWritten}
+use Rattle.wire.specs.declared.Written.the-variants.{Next, Refused}
 use Rattle.wire.specs.Sending.{sent, isPlain, writtenOf, roomFor, inRoom, writeAt, writeIf, afterWrite, poured}
 
 -- what is left, laid from here, ends where the whole ends
@@ -46,11 +46,11 @@ laying-more w out₀ out at i f e k =
 
 -- whether there is room, with the tests as the code leaves them
 module _ (size room at : ℕ) where
-  pub at-past : room < at → writtenOf (NotWritten TooShort) ≡ roomFor size room at
+  pub at-past : room < at → writtenOf (Refused TooShort) ≡ roomFor size room at
   unfolding writtenOf roomFor
   at-past h = rw (lt-leb (at + size) room (omega arith))
 
-  pub no-room : at ≤ room → room - at < size → writtenOf (NotWritten TooShort) ≡ roomFor size room at
+  pub no-room : at ≤ room → room - at < size → writtenOf (Refused TooShort) ≡ roomFor size room at
   unfolding writtenOf roomFor
   no-room p h = rw (lt-leb (at + size) room (omega arith))
 
@@ -76,7 +76,7 @@ module _ (w l : List ℕ) (at : ℕ) where
   unfolding writeAt
   written-so size e j g = rw g at j ∙ rw e
 
-  pub none-changed : (e : Refusal) → l ≡ afterWrite (writtenOf (NotWritten e)) w l at
+  pub none-changed : (e : Refusal) → l ≡ afterWrite (writtenOf (Refused e)) w l at
   unfolding writtenOf afterWrite
   none-changed e = refl
 
@@ -86,7 +86,7 @@ module _ (w l : List ℕ) (at : ℕ) where
 
 -- ---- what is inside its range is written, and nothing else
 
-pub outside : (w : List ℕ) (room at : ℕ) {ok : Bool} → ok ≡ false → writtenOf (NotWritten NotValid) ≡ writeIf ok w room at
+pub outside : (w : List ℕ) (room at : ℕ) {ok : Bool} → ok ≡ false → writtenOf (Refused NotValid) ≡ writeIf ok w room at
 unfolding writtenOf writeIf
 outside w room at e = rw e
 

@@ -9,12 +9,12 @@ use Rattle.memory.specs.declared.Remembered.{Remembered}
 use Rattle.refusals.specs.Refusals.{numberOf}
 use Rattle.refusals.specs.Answers.{Answer, done, refused, pick}
 use Rattle.wire.specs.declared.Written.{Written}
-use Rattle.wire.specs.declared.Written.the-variants.{Next, NotWritten}
+use Rattle.wire.specs.declared.Written.the-variants.{Next, Refused}
 
 -- what the answer says; "counts with a refusal are 0"
 unfoldable pub writtenOf : Written → Answer ℕ
 writtenOf (Next n) = done n
-writtenOf (NotWritten e) = refused (numberOf e) 0
+writtenOf (Refused e) = refused (numberOf e) 0
 
 -- a parameter's bytes as they are sent: each as itself, "the writer writes 127"
 unfoldable pub sent : Remembered → List ℕ → List ℕ

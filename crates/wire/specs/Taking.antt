@@ -8,12 +8,12 @@ use Rattle.memory.specs.declared.Remembered.{Remembered}
 use Rattle.refusals.specs.Refusals.{numberOf}
 use Rattle.refusals.specs.Answers.{Answer, done, refused, Read, pick}
 use Rattle.wire.specs.declared.ByteRead.{ByteRead}
-use Rattle.wire.specs.declared.ByteRead.the-variants.{Byte, NoByte}
+use Rattle.wire.specs.declared.ByteRead.the-variants.{Byte, Refused}
 
 -- what the answer says
 unfoldable pub byteOf : ByteRead → Answer (Read ℕ)
-byteOf (Byte b p n) = done (record { value = b; place = p; next = n })
-byteOf (NoByte e p) = refused (numberOf e) p
+byteOf (Byte b) = done (record { value = b .value; place = b .place; next = b .next })
+byteOf (Refused e p) = refused (numberOf e) p
 
 -- "In a parameter, ESC followed by 63 reads as 127", "for the pair 27 63 the place is that of the 63";
 -- "27 at the end of the bytes is 1; 27 before another byte than 63 is 6 at the 27"

@@ -9,17 +9,23 @@ ghost use Rattle.wire.specs.Sending.{sent, isPlain, roomFor, inRoom, wri
 use memory::Remembered;
 use refusals::Refusal;
 
+// A byte that was taken, its place, and where reading goes on.
+pub struct TakenByte {
+    pub value: u8,
+    pub place: usize,
+    pub next: usize,
+}
+
 pub enum ByteRead {
-    // the byte, its place, and where reading goes on
-    Byte(u8, usize, usize),
+    Byte(TakenByte),
     // the refusal and its place
-    NoByte(Refusal, usize),
+    Refused(Refusal, usize),
 }
 
 pub enum Written {
     // where the next byte goes
     Next(usize),
-    NotWritten(Refusal),
+    Refused(Refusal),
 }
 
 // What stands after the ESC at `at`.
@@ -29,13 +35,18 @@ fn pair(s: &[u8], at: usize) -> ByteRead
 {
     let place = at + 1;
     if place >= s.len() {
-        return ByteRead::NoByte(Refusal::BytesEnd, s.len());
+        return ByteRead::Refused(Refusal::BytesEnd, s.len());
     }
     if s[place] == 63 {
         let next = at + 2;
-        return ByteRead::Byte(127, place, next);
+        let byte = TakenByte {
+            value: 127,
+            place: place,
+            next: next,
+        };
+        return ByteRead::Byte(byte);
     }
-    ByteRead::NoByte(Refusal::NewEscape, at)
+    ByteRead::Refused(Refusal::NewEscape, at)
 }
 
 // The next byte of a parameter. Reading goes by what is remembered; today nothing in it changes how a byte is taken.
@@ -43,20 +54,25 @@ pub fn take(kept: Remembered, s: &[u8], at: usize) -> ByteRead
     ensures { λ r. ⌜ byteOf r ≡ byteAt kept (now (s .entry)) at ⌝ }
 {
     if at >= s.len() {
-        return ByteRead::NoByte(Refusal::BytesEnd, s.len());
+        return ByteRead::Refused(Refusal::BytesEnd, s.len());
     }
     let b = s[at];
     if b == 27 {
         return pair(s, at);
     }
     if b < 32 {
-        return ByteRead::NoByte(Refusal::ByteNotAllowed, at);
+        return ByteRead::Refused(Refusal::ByteNotAllowed, at);
     }
     if b > 127 {
-        return ByteRead::NoByte(Refusal::ByteNotAllowed, at);
+        return ByteRead::Refused(Refusal::ByteNotAllowed, at);
     }
     let next = at + 1;
-    ByteRead::Byte(b, at, next)
+    let byte = TakenByte {
+        value: b,
+        place: at,
+        next: next,
+    };
+    ByteRead::Byte(byte)
 }
 
 // A byte that is taken as it stands: neither ESC nor DEL.
@@ -93,10 +109,10 @@ pub fn room_for(size: usize, room: usize, at: usize) -> Written
     ensures { λ r. ⌜ writtenOf r ≡ roomFor size room at ⌝ }
 {
     if at > room {
-        return Written::NotWritten(Refusal::TooShort);
+        return Written::Refused(Refusal::TooShort);
     }
     if size > room - at {
-        return Written::NotWritten(Refusal::TooShort);
+        return Written::Refused(Refusal::TooShort);
     }
     let next = at + size;
     Written::Next(next)
@@ -130,7 +146,7 @@ pub fn copy(w: &[u8], out: &mut [u8], at: usize)
 }
 
 // The bytes `w` into `out` from `at` on: all of them, or 7 and none.
-pub fn lay(w: &[u8], out: &mut [u8], at: usize) -> Written
+pub fn write_bytes(w: &[u8], out: &mut [u8], at: usize) -> Written
     ensures { λ r. ⌜ (writtenOf r ≡ writeAt (now (w .entry)) (length (now (out .entry))) at) × (now (out .exit) ≡ afterWrite (writtenOf r) (now (w .entry)) (now (out .entry)) at) ⌝ }
 {
     match room_for(w.len(), out.len(), at) {
@@ -138,7 +154,7 @@ pub fn lay(w: &[u8], out: &mut [u8], at: usize) -> Written
             copy(w, out, at);
             Written::Next(next)
         }
-        Written::NotWritten(e) => Written::NotWritten(e),
+        Written::Refused(e) => Written::Refused(e),
     }
 }
 

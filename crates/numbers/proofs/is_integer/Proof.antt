@@ -9,12 +9,12 @@ magnitude-requires c κs = search needs
 is-negative-requires : tie.Need-is-negative-requires
 is-negative-requires c κs = search needs
 
-limit-of-requires : tie.Need-limit-of-requires
-limit-of-requires c κs = search needs
+most-magnitude-requires : tie.Need-most-magnitude-requires
+most-magnitude-requires c κs = search needs
 
 returns : tie.Need-returns
 returns c = search (needs, integer-tested)
 
 pub is-integer-spec : {M : Type 1} → statement M
 is-integer-spec =
-    tie.close (tie.spec magnitude-requires is-negative-requires limit-of-requires returns)
+    tie.close (tie.spec magnitude-requires is-negative-requires most-magnitude-requires returns)

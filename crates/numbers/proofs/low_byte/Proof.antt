@@ -15,8 +15,8 @@ add-mag c = search needs
 cast-if1 : tie.Need-cast-if1
 cast-if1 c = search needs
 
-limit-of-requires : tie.Need-limit-of-requires
-limit-of-requires c κs = search needs
+most-magnitude-requires : tie.Need-most-magnitude-requires
+most-magnitude-requires c κs = search needs
 
 returns : tie.Need-returns
 returns c = search (needs, low-out)
@@ -35,7 +35,7 @@ low-byte-spec =
     cast-mag
     add-mag
     cast-if1
-    limit-of-requires
+    most-magnitude-requires
     returns
     signed-requires
     returns-2)

@@ -10,8 +10,8 @@ is-negative-requires c κs = search needs
 magnitude-requires : tie.Need-magnitude-requires
 magnitude-requires c κs = search needs
 
-limit-of-requires : tie.Need-limit-of-requires
-limit-of-requires c κs = search needs
+most-magnitude-requires : tie.Need-most-magnitude-requires
+most-magnitude-requires c κs = search needs
 
 returns : tie.Need-returns
 returns c = search (needs, none-size, none-stand, not-integer)
@@ -31,7 +31,7 @@ pour-integer-spec =
     (tie.spec
     is-negative-requires
     magnitude-requires
-    limit-of-requires
+    most-magnitude-requires
     returns
     pour-magnitude-requires
     same-length

@@ -7,8 +7,8 @@ use Rattle.points.proofs.after_hi_y.Tie as tie
 take-requires : tie.Need-take-requires
 take-requires c κs = search needs
 
-enum-known-v : tie.Need-enum-known-v
-enum-known-v c = search needs
+enum-known-byte : tie.Need-enum-known-byte
+enum-known-byte c = search needs
 
 returns : tie.Need-returns
 unfolding afterHiY
@@ -40,7 +40,7 @@ after-hi-y-spec =
     tie.close
     (tie.spec
     take-requires
-    enum-known-v
+    enum-known-byte
     returns
     ends-requires
     returns-2

@@ -7,8 +7,8 @@ use Rattle.points.proofs.after_lo_y.Tie as tie
 take-requires : tie.Need-take-requires
 take-requires c κs = search needs
 
-enum-known-v : tie.Need-enum-known-v
-enum-known-v c = search needs
+enum-known-byte : tie.Need-enum-known-byte
+enum-known-byte c = search needs
 
 last-requires : tie.Need-last-requires
 last-requires c κs = search needs
@@ -40,7 +40,7 @@ after-lo-y-spec =
     tie.close
     (tie.spec
     take-requires
-    enum-known-v
+    enum-known-byte
     last-requires
     returns
     ends-requires

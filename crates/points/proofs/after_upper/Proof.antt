@@ -7,8 +7,8 @@ use Rattle.points.proofs.after_upper.Tie as tie
 take-requires : tie.Need-take-requires
 take-requires c κs = search needs
 
-enum-known-v : tie.Need-enum-known-v
-enum-known-v c = search needs
+enum-known-byte : tie.Need-enum-known-byte
+enum-known-byte c = search needs
 
 last-requires : tie.Need-last-requires
 last-requires c κs = search needs
@@ -43,7 +43,7 @@ after-upper-spec =
     tie.close
     (tie.spec
     take-requires
-    enum-known-v
+    enum-known-byte
     last-requires
     returns
     ends-requires

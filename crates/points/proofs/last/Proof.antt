@@ -7,8 +7,8 @@ use Rattle.points.proofs.last.Tie as tie
 take-requires : tie.Need-take-requires
 take-requires c κs = search needs
 
-enum-known-v : tie.Need-enum-known-v
-enum-known-v c = search needs
+enum-known-byte : tie.Need-enum-known-byte
+enum-known-byte c = search needs
 
 returns : tie.Need-returns
 unfolding lastAt
@@ -37,7 +37,7 @@ last-spec =
     tie.close
     (tie.spec
     take-requires
-    enum-known-v
+    enum-known-byte
     returns
     ends-requires
     returns-2

@@ -6,8 +6,8 @@ use Rattle.points.proofs.past_hi_y.Tie as tie
 take-requires : tie.Need-take-requires
 take-requires c κs = search needs
 
-enum-known-v : tie.Need-enum-known-v
-enum-known-v c = search needs
+enum-known-byte : tie.Need-enum-known-byte
+enum-known-byte c = search needs
 
 returns : tie.Need-returns
 returns c = search (needs, a-hi-y, no-hi-y, no-byte-yet)
@@ -23,4 +23,4 @@ returns-3 c = search (needs, a-hi-y, no-hi-y, no-byte-yet)
 
 pub past-hi-y-spec : {M : Type 1} → statement M
 past-hi-y-spec =
-    tie.close (tie.spec take-requires enum-known-v returns enum-told returns-2 returns-3)
+    tie.close (tie.spec take-requires enum-known-byte returns enum-told returns-2 returns-3)

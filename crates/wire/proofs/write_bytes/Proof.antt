@@ -1,7 +1,7 @@
 use Rattle.wire.proofs.Laying.{written-so, all-changed, none-changed}
 use borrow.Author.Needs.{needs}
-use Rattle.wire.proofs.lay.Statement.{statement}
-use Rattle.wire.proofs.lay.Tie as tie
+use Rattle.wire.proofs.write_bytes.Statement.{statement}
+use Rattle.wire.proofs.write_bytes.Tie as tie
 
 room-for-requires : tie.Need-room-for-requires
 room-for-requires c κs = search needs
@@ -24,8 +24,8 @@ returns c = search (needs, written-so, all-changed)
 returns-2 : tie.Need-returns-2
 returns-2 c = search (needs, written-so, none-changed)
 
-pub lay-spec : {M : Type 1} → statement M
-lay-spec =
+pub write-bytes-spec : {M : Type 1} → statement M
+write-bytes-spec =
     tie.close
     (tie.spec
     room-for-requires

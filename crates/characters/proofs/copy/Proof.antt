@@ -3,8 +3,8 @@ use Rattle.wire.proofs.Laying.{Laying}
 use Rattle.characters.specs.Characters.{lowBytes}
 use Rattle.characters.proofs.Entries.{entering}
 use borrow.Author.Needs.{needs}
-use Rattle.characters.proofs.lay.Statement.{statement}
-use Rattle.characters.proofs.lay.Tie as tie
+use Rattle.characters.proofs.copy.Statement.{statement}
+use Rattle.characters.proofs.copy.Tie as tie
 
 abbrev Inv-loop : tie.InvT-loop
 Inv-loop list out₀ at count i₀ out i = Laying (lowBytes list) out₀ out at i
@@ -48,8 +48,8 @@ same-length c = search (needs, entering)
 returns : tie.Need-returns Inv-loop μ-loop
 returns c = search (needs, entering)
 
-pub lay-spec : {M : Type 1} → statement M
-lay-spec =
+pub copy-spec : {M : Type 1} → statement M
+copy-spec =
     tie.close
     (tie.spec
     Inv-loop
