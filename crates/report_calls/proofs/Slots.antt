@@ -10,30 +10,32 @@ use Rattle.refusals.specs.declared.Refusal.{Refusal}
 use Rattle.refusals.specs.Refusals.{numberOf}
 use Rattle.refusals.specs.Answers.{Answer, done, refused, Read, number, valueOr, placeOf}
 use Rattle.numbers.specs.declared.IntegerRead.{IntegerRead}
-use Rattle.numbers.specs.declared.IntegerRead.the-variants.{Integer, NoInteger}
+use Rattle.numbers.specs.declared.IntegerRead.the-variants as IntegerRead
+use Rattle.numbers.specs.declared.TakenInteger.{TakenInteger}
 use Rattle.numbers.specs.Integers.{integerOf}
 use Rattle.reports.specs.declared.StringRead.{StringRead}
-use Rattle.reports.specs.declared.StringRead.the-variants.{Entries, NoString}
-use Rattle.reports.specs.Reading.{Held, stringOf, afterString}
+use Rattle.reports.specs.declared.StringRead.the-variants as StringRead
+use Rattle.reports.specs.declared.TakenString.{TakenString}
+use Rattle.reports.specs.Reading.{stringOf, afterString}
 use Rattle.reports.specs.Writing.{spellReport, writeReport}
 
 -- ---- an integer that was read
 
 module _ {r : IntegerRead} {d : Answer (Read ℤ)} (e : integerOf r ≡ d) where
-  module _ {v : ℤ} {p n : ℕ} (g : r ≡ Integer v p n) where
+  module _ {i : TakenInteger} (g : r ≡ IntegerRead.Integer i) where
     pub integer-done : 0 ≡ number d
     unfolding integerOf number
     integer-done = rw (sym e, g)
 
-    pub integer-value : {x : ℤ} → x ≡ v → x ≡ valueOr (pos 0) (λ (a : Read ℤ). a .value) d
+    pub integer-value : {x : ℤ} → x ≡ i .value → x ≡ valueOr (pos 0) (λ (a : Read ℤ). a .value) d
     unfolding integerOf valueOr
     integer-value j = rw (sym e, g) j
 
-    pub integer-next : n ≡ placeOf (λ (a : Read ℤ). a .next) d
+    pub integer-next : i .next ≡ placeOf (λ (a : Read ℤ). a .next) d
     unfolding integerOf placeOf
     integer-next = rw (sym e, g)
 
-  module _ {f : Refusal} {p : ℕ} (g : r ≡ NoInteger f p) where
+  module _ {f : Refusal} {p : ℕ} (g : r ≡ IntegerRead.Refused f p) where
     pub integer-refused : {k : ℕ} → k ≡ numberOf f → k ≡ number d
     unfolding integerOf number
     integer-refused j = rw (sym e, g) j
@@ -52,34 +54,34 @@ pub ruleset no-integer = (integer-refused, integer-none, integer-place)
 
 -- ---- a string that was read
 
-module _ (r : StringRead) {d : Answer Held} (e : stringOf r ≡ d) where
+module _ (r : StringRead) {d : Answer TakenString} (e : stringOf r ≡ d) where
   pub string-list : (s : List ℕ) (at : ℕ) (l : List ℤ) {o : List ℤ} → o ≡ afterString (stringOf r) s at l → o ≡ afterString d s at l
   string-list s at l j = j ∙ ap (λ x. afterString x s at l) e
 
-module _ {r : StringRead} {d : Answer Held} (e : stringOf r ≡ d) where
-  module _ {k n : ℕ} (g : r ≡ Entries k n) where
+module _ {r : StringRead} {d : Answer TakenString} (e : stringOf r ≡ d) where
+  module _ {t : TakenString} (g : r ≡ StringRead.Entries t) where
     pub string-done : 0 ≡ number d
     unfolding stringOf number
     string-done = rw (sym e, g)
 
-    pub string-count : k ≡ valueOr 0 (λ (h : Held). h .count) d
+    pub string-count : t .count ≡ valueOr 0 (λ (h : TakenString). h .count) d
     unfolding stringOf valueOr
     string-count = rw (sym e, g)
 
-    pub string-next : n ≡ placeOf (λ (h : Held). h .next) d
+    pub string-next : t .next ≡ placeOf (λ (h : TakenString). h .next) d
     unfolding stringOf placeOf
     string-next = rw (sym e, g)
 
-  module _ {f : Refusal} {p : ℕ} (g : r ≡ NoString f p) where
+  module _ {f : Refusal} {p : ℕ} (g : r ≡ StringRead.Refused f p) where
     pub string-refused : {k : ℕ} → k ≡ numberOf f → k ≡ number d
     unfolding stringOf number
     string-refused j = rw (sym e, g) j
 
-    pub string-none : 0 ≡ valueOr 0 (λ (h : Held). h .count) d
+    pub string-none : 0 ≡ valueOr 0 (λ (h : TakenString). h .count) d
     unfolding stringOf valueOr
     string-none = rw (sym e, g)
 
-    pub string-place : p ≡ placeOf (λ (h : Held). h .next) d
+    pub string-place : p ≡ placeOf (λ (h : TakenString). h .next) d
     unfolding stringOf placeOf
     string-place = rw (sym e, g)
 

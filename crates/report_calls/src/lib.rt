@@ -5,7 +5,8 @@ ghost use lib.ListN.{length};
 ghost use lib.IntN.{ℤ, pos};
 ghost use Rattle.refusals.specs.Answers.{number, valueOr, placeOf, Read};
 ghost use Rattle.wire.specs.Sending.{afterWrite};
-ghost use Rattle.reports.specs.Reading.{Held, reportAt, stringAt, afterString};
+ghost use Rattle.reports.specs.declared.TakenString.{TakenString};
+ghost use Rattle.reports.specs.Reading.{reportAt, stringAt, afterString};
 ghost use Rattle.reports.specs.Writing.{spellReport, writeReport, spellString, writeString};
 use numbers::IntegerRead;
 use reports::StringRead;
@@ -23,12 +24,13 @@ pub extern "C" fn ardh_read_integer_report(
     ensures { λ _. ⌜ now (place .exit) ≡ placeOf (λ (v : Read ℤ). v .next) (reportAt (now (bytes .entry)) start) ⌝ }
 {
     match reports::read_integer(bytes, start) {
-        IntegerRead::Integer(v, _, next) => {
+        IntegerRead::Integer(integer) => {
+            let v = integer.value;
             *value = v;
-            *place = next;
+            *place = integer.next;
             0
         }
-        IntegerRead::NoInteger(e, p) => {
+        IntegerRead::Refused(e, p) => {
             *value = 0;
             *place = p;
             refusals::number(e)
@@ -45,17 +47,17 @@ pub extern "C" fn ardh_read_string_report(
     place: &mut usize,
 ) -> u8
     ensures { λ r. ⌜ r ≡ number (stringAt (now (bytes .entry)) start (length (now (list .entry)))) ⌝ }
-    ensures { λ _. ⌜ now (count .exit) ≡ valueOr 0 (λ (h : Held). h .count) (stringAt (now (bytes .entry)) start (length (now (list .entry)))) ⌝ }
-    ensures { λ _. ⌜ now (place .exit) ≡ placeOf (λ (h : Held). h .next) (stringAt (now (bytes .entry)) start (length (now (list .entry)))) ⌝ }
+    ensures { λ _. ⌜ now (count .exit) ≡ valueOr 0 (λ (h : TakenString). h .count) (stringAt (now (bytes .entry)) start (length (now (list .entry)))) ⌝ }
+    ensures { λ _. ⌜ now (place .exit) ≡ placeOf (λ (h : TakenString). h .next) (stringAt (now (bytes .entry)) start (length (now (list .entry)))) ⌝ }
     ensures { λ _. ⌜ now (list .exit) ≡ afterString (stringAt (now (bytes .entry)) start (length (now (list .entry)))) (now (bytes .entry)) start (now (list .entry)) ⌝ }
 {
     match reports::read_string(bytes, start, list) {
-        StringRead::Entries(n, next) => {
-            *count = n;
-            *place = next;
+        StringRead::Entries(string) => {
+            *count = string.count;
+            *place = string.next;
             0
         }
-        StringRead::NoString(e, p) => {
+        StringRead::Refused(e, p) => {
             *count = 0;
             *place = p;
             refusals::number(e)
@@ -79,7 +81,7 @@ pub extern "C" fn ardh_write_integer_report(
             *next = n;
             0
         }
-        Written::NotWritten(e) => {
+        Written::Refused(e) => {
             *next = 0;
             refusals::number(e)
         }
@@ -102,7 +104,7 @@ pub extern "C" fn ardh_write_string_report(
             *next = end;
             0
         }
-        Written::NotWritten(e) => {
+        Written::Refused(e) => {
             *next = 0;
             refusals::number(e)
         }

@@ -16,8 +16,9 @@ use Rattle.refusals.proofs.Cases.{by-pick, by-then, Done, done-of, done-map, is
 use Rattle.wire.proofs.Feeds.{Stands}
 use Rattle.numbers.specs.Integers.{signedOf, isNegative, lowOf}
 use Rattle.numbers.specs.Counts.{asCount, countIn}
-use Rattle.characters.specs.Characters.{isCharacter, areCharacters, bytesOf}
-use Rattle.reports.specs.Reading.{within, reportValue, reportFrom, reportAt, Held, charactersEnd, stringAt, entriesAt}
+use Rattle.characters.specs.Characters.{isCharacter, areCharacters, asBytes}
+use Rattle.reports.specs.declared.TakenString.{TakenString}
+use Rattle.reports.specs.Reading.{byteWithin, reportValue, reportFrom, reportAt, charactersEnd, stringAt, entriesAt}
 use Rattle.reports.specs.Writing.{spellReportOf, spellReport, isReport, isString}
 use Rattle.reports.proofs.Stepping.{Stood, stood-of, run-within, three, Three, behind}
 use Rattle.reports.proofs.Filling.{next-entry}
@@ -90,9 +91,9 @@ unfolding reportAt reportFrom
 report-good s at =
     by-pick (Done (Shown s at)) (ltb (length s) at) _ _
     (λ t. not-done (Shown s at) 8 0)
-    (λ t. by-then (Done (Shown s at)) (within 32 95 s at) _
-    (λ a f. by-then (Done (Shown s at)) (within 32 95 s (a .next)) _
-    (λ b g. by-then (Done (Shown s at)) (within 32 63 s (b .next)) _
+    (λ t. by-then (Done (Shown s at)) (byteWithin 32 95 s at) _
+    (λ a f. by-then (Done (Shown s at)) (byteWithin 32 95 s (a .next)) _
+    (λ b g. by-then (Done (Shown s at)) (byteWithin 32 63 s (b .next)) _
     (λ c h.
     let x = stood-of 32 95 s at f in
     let y = stood-of 32 95 s (a .next) g in
@@ -125,7 +126,7 @@ run-characters : (k : ℕ) (s : List ℕ) (at : ℕ) → Done (AllCharacters s k
 unfolding endsAfter every
 run-characters zero s at = is-done (AllCharacters s 0 at) refl
 run-characters (suc k) s at =
-    by-then (Done (AllCharacters s (suc k) at)) (within 32 127 s at) _
+    by-then (Done (AllCharacters s (suc k) at)) (byteWithin 32 127 s at) _
     (λ c g.
     let x = stood-of 32 127 s at g in
     let e : getD s at 0 ≡ c .value = sym (x .here) in
@@ -141,16 +142,16 @@ part-stands k s at h =
       same = λ i q. sym (getD-take k (drop at s) i 0 (omega arith) ∙ getD-drop at s i 0);
     }
 
-same-bytes : (l : List ℕ) → bytesOf (map pos l) ≡ l
+same-bytes : (l : List ℕ) → asBytes (map pos l) ≡ l
 same-bytes [] = refl
 same-bytes (b ∷ l) = ap (λ (m : List ℕ). b ∷ m) (same-bytes l)
 
 -- what reads as a string: its entries can be written, and stand as they are written behind a length that is written so, or is minus nought
-pub record Text (s : List ℕ) (at : ℕ) (r : Held) : Type 0 where
+pub record Text (s : List ℕ) (at : ℕ) (r : TakenString) : Type 0 where
   pub heading : Stands s at (spellReport (pos (r .count))) ⊎ (Stands s at (32 ∷ 32 ∷ 32 ∷ []) × (r .count ≡ 0))
   pub writable : isString (entriesAt (r .count) s (at + 3)) ≡ true
   pub number : length (entriesAt (r .count) s (at + 3)) ≡ r .count
-  pub stand : Stands s (at + 3) (bytesOf (entriesAt (r .count) s (at + 3)))
+  pub stand : Stands s (at + 3) (asBytes (entriesAt (r .count) s (at + 3)))
   pub next-is : r .next ≡ at + 3 + r .count
 
 count-most : (most : ℕ) (a : Answer (Read ℤ)) → Done (λ (r : Read ℕ). r .value ≤ most) (countIn most a)
@@ -228,5 +229,5 @@ string-good s at room =
     (λ x p g. not-done (Text s at) x p))
     (λ x p e. not-done (Text s at) x p)
 
-pub string-shown : (s : List ℕ) (at room : ℕ) {r : Held} → stringAt s at room ≡ done r → Text s at r
+pub string-shown : (s : List ℕ) (at room : ℕ) {r : TakenString} → stringAt s at room ≡ done r → Text s at r
 string-shown s at room e = done-of (Text s at) (string-good s at room) e

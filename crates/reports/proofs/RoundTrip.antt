@@ -16,12 +16,12 @@ use Rattle.wire.proofs.Feeds.{Stands, stands-between, stands-left, stands-right
 use Rattle.numbers.specs.Integers.{signedOf, isNegative, lowOf}
 use Rattle.numbers.specs.Counts.{countIn}
 use Rattle.ranges.proofs.Entries.{within-range}
-use Rattle.characters.specs.Characters.{isCharacter, areCharacters, bytesOf}
-use Rattle.reports.specs.Reading.{within, reportValue, reportFrom, reportAt, charactersEnd, stringAt, entriesAt}
+use Rattle.characters.specs.Characters.{isCharacter, areCharacters, asBytes}
+use Rattle.reports.specs.Reading.{byteWithin, reportValue, reportFrom, reportAt, charactersEnd, stringAt, entriesAt}
 use Rattle.reports.specs.Writing.{spellReportOf, spellReport, isReport, spellString, isString}
 
-within-is : (least most : ℕ) (s : List ℕ) (at b : ℕ) → at < length s → getD s at 0 ≡ b → least ≤ b → b ≤ most → within least most s at ≡ done (record { value = b; place = at; next = at + 1 })
-unfolding within
+within-is : (least most : ℕ) (s : List ℕ) (at b : ℕ) → at < length s → getD s at 0 ≡ b → least ≤ b → b ≤ most → byteWithin least most s at ≡ done (record { value = b; place = at; next = at + 1 })
+unfolding byteWithin
 within-is least most s at b i e l h = simp (e, lt-ltb at (length s) i, le-ltb b least l, le-ltb most b h)
 
 -- a byte of what stands
@@ -67,7 +67,7 @@ report-round before after v ok = report-back (before ++ (spellReport v ++ after)
 
 -- ---- string reports
 
-run-back : (vs : List ℤ) (s : List ℕ) (at : ℕ) → areCharacters vs ≡ true → Stands s at (bytesOf vs) → charactersEnd (length vs) s at ≡ done (at + length vs)
+run-back : (vs : List ℤ) (s : List ℕ) (at : ℕ) → areCharacters vs ≡ true → Stands s at (asBytes vs) → charactersEnd (length vs) s at ≡ done (at + length vs)
 unfolding endsAfter
 run-back [] s at ok st = ap done (omega arith)
 run-back (v ∷ vs) s at ok st =
@@ -75,7 +75,7 @@ run-back (v ∷ vs) s at ok st =
     let r = within-range 32 127 v (c .0) in
     let w = within-is 32 127 s at (natAbs v) (omega (arith, st .room)) (byte-at st 0 at (omega arith) (omega arith)) (r .0) (r .1 .0) in
     let z : at + 1 + length vs ≡ at + length (v ∷ vs) = omega arith in
-    rw w (run-back vs s (at + 1) (c .1) (stands-right s at (natAbs v ∷ []) (bytesOf vs) st) ∙ ap done z)
+    rw w (run-back vs s (at + 1) (c .1) (stands-right s at (natAbs v ∷ []) (asBytes vs) st) ∙ ap done z)
 
 -- what stands is the part of that length
 pub stands-part : (s : List ℕ) (at : ℕ) (w : List ℕ) → Stands s at w → take (length w) (drop at s) ≡ w
@@ -83,17 +83,17 @@ stands-part s at w st =
     let l : length (take (length w) (drop at s)) ≡ length w = length-take-le (length w) (drop at s) (omega (arith, st .room, length-drop at s)) in
     ext-getD 0 (take (length w) (drop at s)) w l (λ i h. getD-take (length w) (drop at s) i 0 (omega arith) ∙ getD-drop at s i 0 ∙ st .same i (omega arith))
 
-entries-same : (vs : List ℤ) → areCharacters vs ≡ true → map pos (bytesOf vs) ≡ vs
+entries-same : (vs : List ℤ) → areCharacters vs ≡ true → map pos (asBytes vs) ≡ vs
 entries-same [] ok = refl
 entries-same (v ∷ vs) ok =
     let c = every-split isCharacter v vs ok in
     let r = within-range 32 127 v (c .0) in
-    ap (λ (x : ℤ). x ∷ map pos (bytesOf vs)) (r .1 .1) ∙ ap (λ (l : List ℤ). v ∷ l) (entries-same vs (c .1))
+    ap (λ (x : ℤ). x ∷ map pos (asBytes vs)) (r .1 .1) ∙ ap (λ (l : List ℤ). v ∷ l) (entries-same vs (c .1))
 
-pub entries-back : (s : List ℕ) (at : ℕ) (vs : List ℤ) → areCharacters vs ≡ true → Stands s at (bytesOf vs) → entriesAt (length vs) s at ≡ vs
+pub entries-back : (s : List ℕ) (at : ℕ) (vs : List ℤ) → areCharacters vs ≡ true → Stands s at (asBytes vs) → entriesAt (length vs) s at ≡ vs
 entries-back s at vs ok st =
-    let n : length (bytesOf vs) ≡ length vs = length-map vs natAbs in
-    let p : take (length vs) (drop at s) ≡ bytesOf vs = rw n at (stands-part s at (bytesOf vs) st) in
+    let n : length (asBytes vs) ≡ length vs = length-map vs natAbs in
+    let p : take (length vs) (drop at s) ≡ asBytes vs = rw n at (stands-part s at (asBytes vs) st) in
     ap (map pos) p ∙ entries-same vs ok
 
 module _ (s : List ℕ) (at : ℕ) (vs : List ℤ) (ok : isString vs ≡ true) (st : Stands s at (spellString vs)) where
@@ -107,11 +107,11 @@ module _ (s : List ℕ) (at : ℕ) (vs : List ℤ) (ok : isString vs ≡ true) (
 
   first : Stands s at (spellReport (pos (length vs)))
   unfolding spellString
-  first = stands-left s at (spellReport (pos (length vs))) (bytesOf vs) st
+  first = stands-left s at (spellReport (pos (length vs))) (asBytes vs) st
 
-  rest : Stands s (at + 3) (bytesOf vs)
+  rest : Stands s (at + 3) (asBytes vs)
   unfolding spellString
-  rest = stands-right s at (spellReport (pos (length vs))) (bytesOf vs) st
+  rest = stands-right s at (spellReport (pos (length vs))) (asBytes vs) st
 
   -- reading a written string gives its length and ends behind it
   pub string-back : (room : ℕ) → length vs ≤ room → stringAt s at room ≡ done (record { count = length vs; next = at + 3 + length vs })

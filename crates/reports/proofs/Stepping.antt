@@ -15,19 +15,21 @@ use Rattle.refusals.specs.Answers.{Answer, done, refused, Read, endsAfter}
 use Rattle.refusals.proofs.Cases.{by-pick, by-then, Done, done-of, done-map, is-done, not-done}
 use Rattle.refusals.proofs.Many.{passed-all, passed-one, passed-none}
 use Rattle.wire.specs.declared.ByteRead.{ByteRead}
-use Rattle.wire.specs.declared.ByteRead.the-variants.{Byte, NoByte}
+use Rattle.wire.specs.declared.ByteRead.the-variants as ByteRead
+use Rattle.wire.specs.declared.TakenByte.{TakenByte}
 use Rattle.wire.specs.Taking.{byteOf}
-use Rattle.numbers.specs.declared.IntegerRead.the-variants.{Integer, NoInteger}
+use Rattle.numbers.specs.declared.IntegerRead.the-variants as IntegerRead
 use Rattle.numbers.specs.declared.CountRead.{CountRead}
-use Rattle.numbers.specs.declared.CountRead.the-variants.{Count, NoCount}
+use Rattle.numbers.specs.declared.CountRead.the-variants as CountRead
+use Rattle.numbers.specs.declared.TakenCount.{TakenCount}
 use Rattle.numbers.specs.Integers.{integerOf, isNegative}
 use Rattle.numbers.specs.Counts.{countIn, countOf}
-use Rattle.reports.specs.declared.StringRead.the-variants.{Entries, NoString}
+use Rattle.reports.specs.declared.StringRead.the-variants as StringRead
 use Rattle.reports.specs.declared.RunEnd.{RunEnd}
-use Rattle.reports.specs.declared.RunEnd.the-variants.{End, Broken}
-use Rattle.reports.specs.Reading.{within, reportValue, reportFrom, reportAt, Held, stringOf, endOf, charactersEnd, stringAt, entriesAt, afterString}
+use Rattle.reports.specs.declared.RunEnd.the-variants as RunEnd
+use Rattle.reports.specs.Reading.{byteWithin, reportValue, reportFrom, reportAt, stringOf, runEndOf, charactersEnd, stringAt, entriesAt, afterString}
 
--- ---- a byte within its bounds
+-- ---- a byte byteWithin its bounds
 
 pub record Stood (least most : ℕ) (s : List ℕ) (at : ℕ) (r : Read ℕ) : Type 0 where
   pub low : least ≤ r .value
@@ -36,8 +38,8 @@ pub record Stood (least most : ℕ) (s : List ℕ) (at : ℕ) (r : Read ℕ) : T
   pub here : r .value ≡ getD s at 0
   pub next-is : r .next ≡ at + 1
 
-stood : (least most : ℕ) (s : List ℕ) (at : ℕ) → Done (Stood least most s at) (within least most s at)
-unfolding within
+stood : (least most : ℕ) (s : List ℕ) (at : ℕ) → Done (Stood least most s at) (byteWithin least most s at)
+unfolding byteWithin
 stood least most s at =
     by-pick (Done P) (ltb at (length s)) _ _
     (λ t. by-pick (Done P) (ltb (getD s at 0) least) _ _
@@ -56,42 +58,42 @@ stood least most s at =
     P : Read ℕ → Type 0
     P = Stood least most s at
 
-pub stood-of : (least most : ℕ) (s : List ℕ) (at : ℕ) {r : Read ℕ} → within least most s at ≡ done r → Stood least most s at r
+pub stood-of : (least most : ℕ) (s : List ℕ) (at : ℕ) {r : Read ℕ} → byteWithin least most s at ≡ done r → Stood least most s at r
 stood-of least most s at e = done-of (Stood least most s at) (stood least most s at) e
 
-module _ (least most : ℕ) (s : List ℕ) (at : ℕ) {r : ByteRead} (e : byteOf r ≡ within least most s at) where
-  given : {b p n : ℕ} → r ≡ Byte b p n → within least most s at ≡ done (record { value = b; place = p; next = n })
+module _ (least most : ℕ) (s : List ℕ) (at : ℕ) {r : ByteRead} (e : byteOf r ≡ byteWithin least most s at) where
+  given : {b : TakenByte} → r ≡ ByteRead.Byte b → byteWithin least most s at ≡ done (record { value = b .value; place = b .place; next = b .next })
   unfolding byteOf
   given g = sym e ∙ rw g
 
-  pub at-least : {b p n : ℕ} → r ≡ Byte b p n → least ≤ b
+  pub at-least : {b : TakenByte} → r ≡ ByteRead.Byte b → least ≤ b .value
   at-least g = stood-of least most s at (given g) .low
 
-  pub at-most : {b p n : ℕ} → r ≡ Byte b p n → b ≤ most
+  pub at-most : {b : TakenByte} → r ≡ ByteRead.Byte b → b .value ≤ most
   at-most g = stood-of least most s at (given g) .high
 
 -- ---- an integer report
 
-module _ (s : List ℕ) (at : ℕ) {a : ByteRead} (ea : byteOf a ≡ within 32 95 s at) where
-  pub first-no : {x : Refusal} {p : ℕ} → a ≡ NoByte x p → integerOf (NoInteger x p) ≡ reportFrom s at
+module _ (s : List ℕ) (at : ℕ) {a : ByteRead} (ea : byteOf a ≡ byteWithin 32 95 s at) where
+  pub first-no : {x : Refusal} {p : ℕ} → a ≡ ByteRead.Refused x p → integerOf (IntegerRead.Refused x p) ≡ reportFrom s at
   unfolding reportFrom byteOf integerOf
   first-no g = rw (← ea, g)
 
-  module _ {v p n : ℕ} (ga : a ≡ Byte v p n) {b : ByteRead} (eb : byteOf b ≡ within 32 95 s n) where
-    pub second-no : {x : Refusal} {q : ℕ} → b ≡ NoByte x q → integerOf (NoInteger x q) ≡ reportFrom s at
+  module _ {x₁ : TakenByte} (ga : a ≡ ByteRead.Byte x₁) {b : ByteRead} (eb : byteOf b ≡ byteWithin 32 95 s (x₁ .next)) where
+    pub second-no : {x : Refusal} {q : ℕ} → b ≡ ByteRead.Refused x q → integerOf (IntegerRead.Refused x q) ≡ reportFrom s at
     unfolding reportFrom byteOf integerOf
     second-no g = rw (← ea, ga, ← eb, g)
 
-    module _ {v₂ p₂ n₂ : ℕ} (gb : b ≡ Byte v₂ p₂ n₂) {c : ByteRead} (ec : byteOf c ≡ within 32 63 s n₂) where
-      pub low-no : {x : Refusal} {q : ℕ} → c ≡ NoByte x q → integerOf (NoInteger x q) ≡ reportFrom s at
+    module _ {x₂ : TakenByte} (gb : b ≡ ByteRead.Byte x₂) {c : ByteRead} (ec : byteOf c ≡ byteWithin 32 63 s (x₂ .next)) where
+      pub low-no : {x : Refusal} {q : ℕ} → c ≡ ByteRead.Refused x q → integerOf (IntegerRead.Refused x q) ≡ reportFrom s at
       unfolding reportFrom byteOf integerOf
       low-no g = rw (← ea, ga, ← eb, gb, ← ec, g)
 
-      pub report-is : (x : ℤ) {y : ℤ} {v₃ p₃ n₃ : ℕ} → c ≡ Byte v₃ p₃ n₃ → y ≡ reportValue v v₂ v₃ → x ≡ y → integerOf (Integer x p₃ n₃) ≡ reportFrom s at
+      pub report-is : (x : ℤ) {y : ℤ} {x₃ : TakenByte} → c ≡ ByteRead.Byte x₃ → y ≡ reportValue (x₁ .value) (x₂ .value) (x₃ .value) → x ≡ y → integerOf (IntegerRead.Integer (record { value = x; place = x₃ .place; next = x₃ .next })) ≡ reportFrom s at
       unfolding reportFrom byteOf integerOf
       report-is x g j i = rw (i, j, ← ea, ga, ← eb, gb, ← ec, g)
 
-pub start-past : (s : List ℕ) (at : ℕ) → length s < at → integerOf (NoInteger NotValid 0) ≡ reportAt s at
+pub start-past : (s : List ℕ) (at : ℕ) → length s < at → integerOf (IntegerRead.Refused NotValid 0) ≡ reportAt s at
 unfolding reportAt integerOf
 start-past s at h = rw (lt-ltb (length s) at h)
 
@@ -102,19 +104,19 @@ start-inside s at h j = rw (le-ltb (length s) at h) j
 -- ---- a run of characters
 
 module _ (k : ℕ) (s : List ℕ) (at : ℕ) {q : Answer ℕ} where
-  pub run-done : k ≤ 0 → charactersEnd k s at ≡ q → endOf (End at) ≡ q
-  unfolding endOf
-  run-done h j = passed-all (within 32 127 s) k at h j
+  pub run-done : k ≤ 0 → charactersEnd k s at ≡ q → runEndOf (RunEnd.End at) ≡ q
+  unfolding runEndOf
+  run-done h j = passed-all (byteWithin 32 127 s) k at h j
 
-  module _ {r : ByteRead} (e : byteOf r ≡ within 32 127 s at) (h : 0 < k) (j : charactersEnd k s at ≡ q) where
-    pub run-more : {b p n : ℕ} → r ≡ Byte b p n → charactersEnd (k - 1) s n ≡ q
-    run-more g = passed-one (within 32 127 s) k at (given 32 127 s at e g) h j
+  module _ {r : ByteRead} (e : byteOf r ≡ byteWithin 32 127 s at) (h : 0 < k) (j : charactersEnd k s at ≡ q) where
+    pub run-more : {b : TakenByte} → r ≡ ByteRead.Byte b → charactersEnd (k - 1) s (b .next) ≡ q
+    run-more g = passed-one (byteWithin 32 127 s) k at (given 32 127 s at e g) h j
 
-    pub run-broken : {x : Refusal} {p : ℕ} → r ≡ NoByte x p → endOf (Broken x p) ≡ q
-    unfolding byteOf endOf
-    run-broken g = passed-none (within 32 127 s) k at (sym e ∙ rw g) h j
+    pub run-broken : {x : Refusal} {p : ℕ} → r ≡ ByteRead.Refused x p → runEndOf (RunEnd.Refused x p) ≡ q
+    unfolding byteOf runEndOf
+    run-broken g = passed-none (byteWithin 32 127 s) k at (sym e ∙ rw g) h j
 
--- where a run ends, and that it stays within
+-- where a run ends, and that it stays byteWithin
 Ends : List ℕ → ℕ → ℕ → ℕ → Type 0
 Ends s k at n = (n ≡ at + k) × (at + k ≤ length s)
 
@@ -122,7 +124,7 @@ ends : (s : List ℕ) (k at : ℕ) → at ≤ length s → Done (Ends s k at) (c
 unfolding endsAfter Ends
 ends s zero at h = is-done (Ends s 0 at) (omega arith, omega arith)
 ends s (suc k) at h =
-    by-then (Done (Ends s (suc k) at)) (within 32 127 s at) _
+    by-then (Done (Ends s (suc k) at)) (byteWithin 32 127 s at) _
     (λ c g.
     let t = stood-of 32 127 s at g in
     done-map (λ n e. (omega (arith, e .0, t .next-is), omega (arith, e .1, t .next-is))) (charactersEnd k s (c .next)) (ends s k (c .next) (omega (arith, t .next-is, t .inside))))
@@ -141,9 +143,9 @@ unfolding reportAt reportFrom Three
 three s at =
     by-pick (Done (Three s at)) (ltb (length s) at) _ _
     (λ t. not-done (Three s at) 8 0)
-    (λ t. by-then (Done (Three s at)) (within 32 95 s at) _
-    (λ a f. by-then (Done (Three s at)) (within 32 95 s (a .next)) _
-    (λ b g. by-then (Done (Three s at)) (within 32 63 s (b .next)) _
+    (λ t. by-then (Done (Three s at)) (byteWithin 32 95 s at) _
+    (λ a f. by-then (Done (Three s at)) (byteWithin 32 95 s (a .next)) _
+    (λ b g. by-then (Done (Three s at)) (byteWithin 32 63 s (b .next)) _
     (λ c h.
     let x = stood-of 32 95 s at f in
     let y = stood-of 32 95 s (a .next) g in
@@ -172,41 +174,41 @@ module _ (s : List ℕ) (at : ℕ) {i : Answer (Read ℤ)} (c : CountRead) (ei :
   counted : countIn 256 (reportAt s at) ≡ countOf c
   counted = rw (← ei) (sym ec)
 
-  pub string-no : (room : ℕ) {x : Refusal} {p : ℕ} → c ≡ NoCount x p → stringOf (NoString x p) ≡ stringAt s at room
+  pub string-no : (room : ℕ) {x : Refusal} {p : ℕ} → c ≡ CountRead.Refused x p → stringOf (StringRead.Refused x p) ≡ stringAt s at room
   unfolding stringAt stringOf countOf
   string-no room g = rw (counted, g)
 
-  module _ {k p n : ℕ} (g : c ≡ Count k p n) where
-    found : countIn 256 (reportAt s at) ≡ done (record { value = k; place = p; next = n })
+  module _ {t : TakenCount} (g : c ≡ CountRead.Count t) where
+    found : countIn 256 (reportAt s at) ≡ done (record { value = t .value; place = t .place; next = t .next })
     unfolding countOf
     found = counted ∙ rw g
 
-    next-three : (n ≡ at + 3) × (at + 3 ≤ length s)
+    next-three : (t .next ≡ at + 3) × (at + 3 ≤ length s)
     unfolding Three
     next-three = done-of (λ (r : Read ℕ). (r .next ≡ at + 3) × (at + 3 ≤ length s)) (behind 256 (λ m. (m ≡ at + 3) × (at + 3 ≤ length s)) (reportAt s at) (three s at)) found
 
-    module _ {e : RunEnd} (ee : endOf e ≡ charactersEnd k s n) where
-      pub string-broken : (room : ℕ) {x : Refusal} {q : ℕ} → e ≡ Broken x q → stringOf (NoString x q) ≡ stringAt s at room
-      unfolding stringAt stringOf endOf
+    module _ {e : RunEnd} (ee : runEndOf e ≡ charactersEnd (t .value) s (t .next)) where
+      pub string-broken : (room : ℕ) {x : Refusal} {q : ℕ} → e ≡ RunEnd.Refused x q → stringOf (StringRead.Refused x q) ≡ stringAt s at room
+      unfolding stringAt stringOf runEndOf
       string-broken room h = rw (found, ← ee, h)
 
-      module _ {m : ℕ} (h : e ≡ End m) where
-        pub string-short : (room : ℕ) → room < k → stringOf (NoString TooShort at) ≡ stringAt s at room
-        unfolding stringAt stringOf endOf
-        string-short room l = rw (found, ← ee, h, lt-leb k room l)
+      module _ {m : ℕ} (h : e ≡ RunEnd.End m) where
+        pub string-short : (room : ℕ) → room < t .value → stringOf (StringRead.Refused TooShort at) ≡ stringAt s at room
+        unfolding stringAt stringOf runEndOf
+        string-short room l = rw (found, ← ee, h, lt-leb (t .value) room l)
 
-        pub string-held : (room : ℕ) → k ≤ room → stringOf (Entries k m) ≡ stringAt s at room
-        unfolding stringAt stringOf endOf
-        string-held room l = rw (found, ← ee, h, le-leb k room l)
+        pub string-held : (room : ℕ) → t .value ≤ room → stringOf (StringRead.Entries (record { count = t .value; next = m })) ≡ stringAt s at room
+        unfolding stringAt stringOf runEndOf
+        string-held room l = rw (found, ← ee, h, le-leb (t .value) room l)
 
-        pub run-fits : n + k ≤ length s
-        unfolding endOf
-        run-fits = let t = next-three in run-within k s n m (omega (arith, t .0, t .1)) (sym ee ∙ rw h) .1
+        pub run-fits : t .next + t .value ≤ length s
+        unfolding runEndOf
+        run-fits = let h₃ = next-three in run-within (t .value) s (t .next) m (omega (arith, h₃ .0, h₃ .1)) (sym ee ∙ rw h) .1
 
-        pub string-stands : (l : List ℤ) {o : List ℤ} → o ≡ sets l 0 (entriesAt k s n) → o ≡ afterString (stringOf (Entries k m)) s at l
+        pub string-stands : (l : List ℤ) {o : List ℤ} → o ≡ sets l 0 (entriesAt (t .value) s (t .next)) → o ≡ afterString (stringOf (StringRead.Entries (record { count = t .value; next = m }))) s at l
         unfolding afterString stringOf
-        string-stands l j = j ∙ ap (λ (a : ℕ). sets l 0 (entriesAt k s a)) (next-three .0)
+        string-stands l j = j ∙ ap (λ (a : ℕ). sets l 0 (entriesAt (t .value) s a)) (next-three .0)
 
-pub string-kept : (e : Refusal) (p : ℕ) (s : List ℕ) (at : ℕ) (l : List ℤ) → l ≡ afterString (stringOf (NoString e p)) s at l
+pub string-kept : (e : Refusal) (p : ℕ) (s : List ℕ) (at : ℕ) (l : List ℤ) → l ≡ afterString (stringOf (StringRead.Refused e p)) s at l
 unfolding afterString stringOf
 string-kept e p s at l = refl

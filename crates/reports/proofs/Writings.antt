@@ -13,7 +13,7 @@ use mir.Val.{SFits, toZ, ofZ}
 use mir.Facts.{toZ-ofZ}
 use Rattle.refusals.proofs.Many.{sets-append}
 use Rattle.numbers.specs.Integers.{isNegative}
-use Rattle.characters.specs.Characters.{areCharacters, bytesOf, lowBytes}
+use Rattle.characters.specs.Characters.{areCharacters, asBytes, lowBytes}
 use Rattle.characters.proofs.Entries.{all-bytes}
 use Rattle.reports.specs.Writing.{spellReportOf, spellReport, isReport, spellString, isString}
 
@@ -54,9 +54,9 @@ module _ (vs : List ℤ) where
 module _ (vs : List ℤ) where
   pub string-long : 3 + length vs ≡ length (spellString vs)
   unfolding spellString
-  string-long = let a = length-map vs natAbs in omega (arith, length-append (spellReport (pos (length vs))) (bytesOf vs))
+  string-long = let a = length-map vs natAbs in omega (arith, length-append (spellReport (pos (length vs))) (asBytes vs))
 
   pub string-laid : (l : List ℕ) (at : ℕ) {w m o : List ℕ} → areCharacters vs ≡ true → w ≡ spellReportOf (length vs) false → m ≡ sets l at w → o ≡ sets m (at + 3) (lowBytes vs) → o ≡ sets l at (spellString vs)
   unfolding spellString
   string-laid l at {w} {m} {o} h ew em eo =
-      eo ∙ rw (em, ew, all-bytes 32 vs h) (sets-append (spellReportOf (length vs) false) (bytesOf vs) l at)
+      eo ∙ rw (em, ew, all-bytes 32 vs h) (sets-append (spellReportOf (length vs) false) (asBytes vs) l at)

@@ -11,15 +11,16 @@ use Rattle.refusals.specs.Refusals.{numberOf}
 use Rattle.refusals.specs.Answers.{Answer, done, refused, Read, then, pick, endsAfter}
 use Rattle.numbers.specs.Integers.{signedOf}
 use Rattle.numbers.specs.Counts.{countIn}
-use Rattle.characters.specs.Characters.{entriesOf}
+use Rattle.characters.specs.Characters.{asEntries}
 use Rattle.reports.specs.declared.StringRead.{StringRead}
-use Rattle.reports.specs.declared.StringRead.the-variants.{Entries, NoString}
+use Rattle.reports.specs.declared.StringRead.the-variants as StringRead
+use Rattle.reports.specs.declared.TakenString.{TakenString}
 use Rattle.reports.specs.declared.RunEnd.{RunEnd}
-use Rattle.reports.specs.declared.RunEnd.the-variants.{End, Broken}
+use Rattle.reports.specs.declared.RunEnd.the-variants as RunEnd
 
 -- a byte from least to most, as it stands
-unfoldable pub within : ℕ → ℕ → List ℕ → ℕ → Answer (Read ℕ)
-within least most s at =
+unfoldable pub byteWithin : ℕ → ℕ → List ℕ → ℕ → Answer (Read ℕ)
+byteWithin least most s at =
     pick (ltb at (length s))
     (pick (ltb (getD s at 0) least)
     (refused 3 at)
@@ -33,9 +34,9 @@ reportValue a b c = signedOf ((a - 32) * 1024 + (b - 32) * 16 + c % 16) (ltb c 4
 
 unfoldable pub reportFrom : List ℕ → ℕ → Answer (Read ℤ)
 reportFrom s at =
-    then (within 32 95 s at)
-    (λ a. then (within 32 95 s (a .next))
-    (λ b. then (within 32 63 s (b .next))
+    then (byteWithin 32 95 s at)
+    (λ a. then (byteWithin 32 95 s (a .next))
+    (λ b. then (byteWithin 32 63 s (b .next))
     (λ c. done (record { value = reportValue (a .value) (b .value) (c .value); place = c .place; next = c .next }))))
 
 unfoldable pub reportAt : List ℕ → ℕ → Answer (Read ℤ)
@@ -43,28 +44,23 @@ reportAt s at = pick (ltb (length s) at) (refused 8 0) (reportFrom s at)
 
 -- ---- string reports
 
--- how many entries, and where reading goes on
-pub record Held : Type 0 where
-  pub count : ℕ
-  pub next : ℕ
-
 -- what the answer says
-unfoldable pub stringOf : StringRead → Answer Held
-stringOf (Entries c n) = done (record { count = c; next = n })
-stringOf (NoString e p) = refused (numberOf e) p
+unfoldable pub stringOf : StringRead → Answer TakenString
+stringOf (StringRead.Entries t) = done t
+stringOf (StringRead.Refused e p) = refused (numberOf e) p
 
 -- where a run of characters ends
-unfoldable pub endOf : RunEnd → Answer ℕ
-endOf (End n) = done n
-endOf (Broken e p) = refused (numberOf e) p
+unfoldable pub runEndOf : RunEnd → Answer ℕ
+runEndOf (RunEnd.End n) = done n
+runEndOf (RunEnd.Refused e p) = refused (numberOf e) p
 
 abbrev pub charactersEnd : ℕ → List ℕ → ℕ → Answer ℕ
-charactersEnd k s at = endsAfter (within 32 127 s) k at
+charactersEnd k s at = endsAfter (byteWithin 32 127 s) k at
 
 abbrev pub mostCharacters : ℕ
 mostCharacters = 256
 
-unfoldable pub stringAt : List ℕ → ℕ → ℕ → Answer Held
+unfoldable pub stringAt : List ℕ → ℕ → ℕ → Answer TakenString
 stringAt s at room =
     then (countIn mostCharacters (reportAt s at))
     (λ c. then (charactersEnd (c .value) s (c .next))
@@ -72,9 +68,9 @@ stringAt s at room =
 
 -- the bytes from at on, as entries
 abbrev pub entriesAt : ℕ → List ℕ → ℕ → List ℤ
-entriesAt k s at = entriesOf (take k (drop at s))
+entriesAt k s at = asEntries (take k (drop at s))
 
 -- the lent list after an answer: the characters behind the length, "beyond the result .. unchanged"; a refused call changes nothing
-unfoldable pub afterString : Answer Held → List ℕ → ℕ → List ℤ → List ℤ
+unfoldable pub afterString : Answer TakenString → List ℕ → ℕ → List ℤ → List ℤ
 afterString (done r) s at l = sets l 0 (entriesAt (r .count) s (at + 3))
 afterString (refused e p) s at l = l

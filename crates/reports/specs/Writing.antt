@@ -8,7 +8,7 @@ use lib.IntN.{ℤ, pos, natAbs}
 use Rattle.refusals.specs.Answers.{Answer}
 use Rattle.wire.specs.Sending.{writeIf}
 use Rattle.numbers.specs.Integers.{isNegative, lowOf}
-use Rattle.characters.specs.Characters.{areCharacters, bytesOf}
+use Rattle.characters.specs.Characters.{areCharacters, asBytes}
 use Rattle.reports.specs.Reading.{mostCharacters}
 
 abbrev pub spellReportOf : ℕ → Bool → List ℕ
@@ -25,7 +25,7 @@ abbrev pub writeReport : ℤ → ℕ → ℕ → Answer ℕ
 writeReport v room at = writeIf (isReport v) (spellReport v) room at
 
 unfoldable pub spellString : List ℤ → List ℕ
-spellString vs = spellReport (pos (length vs)) ++ bytesOf vs
+spellString vs = spellReport (pos (length vs)) ++ asBytes vs
 
 unfoldable pub isString : List ℤ → Bool
 isString vs = leb (length vs) mostCharacters && areCharacters vs

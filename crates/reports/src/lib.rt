@@ -9,46 +9,58 @@ ghost use Rattle.wire.specs.Taking.{byteOf};
 ghost use Rattle.wire.specs.Sending.{writeAt, afterWrite, writtenOf};
 ghost use Rattle.numbers.specs.Integers.{integerOf};
 ghost use Rattle.characters.specs.Characters.{areCharacters};
-ghost use Rattle.reports.specs.Reading.{within, reportValue, reportFrom, reportAt, endOf, charactersEnd, stringOf, stringAt, afterString, entriesAt};
+ghost use Rattle.reports.specs.Reading.{byteWithin, reportValue, reportFrom, reportAt, runEndOf, charactersEnd, stringOf, stringAt, afterString, entriesAt};
 ghost use Rattle.reports.specs.Writing.{spellReportOf, spellReport, writeReport, spellString, writeString};
 use numbers::CountRead;
 use numbers::IntegerRead;
+use numbers::TakenInteger;
 use refusals::Refusal;
 use wire::ByteRead;
+use wire::TakenByte;
 use wire::Written;
 
 // "A string report is such a length, 0..256."
 const MOST_CHARACTERS: usize = 256;
 
+// How many entries the list now has at its front, and where reading goes on.
+pub struct TakenString {
+    pub count: usize,
+    pub next: usize,
+}
+
 pub enum StringRead {
-    // how many entries the list now has at its front, and where reading goes on
-    Entries(usize, usize),
+    Entries(TakenString),
     // the refusal and its place
-    NoString(Refusal, usize),
+    Refused(Refusal, usize),
 }
 
 // Where a run of characters ends, or the first byte that is none.
 enum RunEnd {
     End(usize),
-    Broken(Refusal, usize),
+    Refused(Refusal, usize),
 }
 
 // A byte from `least` to `most`.
 fn byte_within(least: u8, most: u8, s: &[u8], at: usize) -> ByteRead
-    ensures { λ r. ⌜ byteOf r ≡ within least most (now (s .entry)) at ⌝ }
+    ensures { λ r. ⌜ byteOf r ≡ byteWithin least most (now (s .entry)) at ⌝ }
 {
     if at >= s.len() {
-        return ByteRead::NoByte(Refusal::BytesEnd, s.len());
+        return ByteRead::Refused(Refusal::BytesEnd, s.len());
     }
     let b = s[at];
     if b < least {
-        return ByteRead::NoByte(Refusal::ByteNotAllowed, at);
+        return ByteRead::Refused(Refusal::ByteNotAllowed, at);
     }
     if b > most {
-        return ByteRead::NoByte(Refusal::ByteNotAllowed, at);
+        return ByteRead::Refused(Refusal::ByteNotAllowed, at);
     }
     let next = at + 1;
-    ByteRead::Byte(b, at, next)
+    let byte = TakenByte {
+        value: b,
+        place: at,
+        next: next,
+    };
+    ByteRead::Byte(byte)
 }
 
 // The number of two high bytes, each less 32, and a low byte.
@@ -67,17 +79,21 @@ fn integer_from(s: &[u8], at: usize) -> IntegerRead
     ensures { λ r. ⌜ integerOf r ≡ reportFrom (now (s .entry)) at ⌝ }
 {
     match byte_within(32, 95, s, at) {
-        ByteRead::Byte(first, _, n) => match byte_within(32, 95, s, n) {
-            ByteRead::Byte(second, _, m) => match byte_within(32, 63, s, m) {
-                ByteRead::Byte(low, p, k) => {
-                    let v = value_of(first, second, low);
-                    IntegerRead::Integer(v, p, k)
+        ByteRead::Byte(first) => match byte_within(32, 95, s, first.next) {
+            ByteRead::Byte(second) => match byte_within(32, 63, s, second.next) {
+                ByteRead::Byte(low) => {
+                    let integer = TakenInteger {
+                        value: value_of(first.value, second.value, low.value),
+                        place: low.place,
+                        next: low.next,
+                    };
+                    IntegerRead::Integer(integer)
                 }
-                ByteRead::NoByte(e, p) => IntegerRead::NoInteger(e, p),
+                ByteRead::Refused(e, p) => IntegerRead::Refused(e, p),
             },
-            ByteRead::NoByte(e, p) => IntegerRead::NoInteger(e, p),
+            ByteRead::Refused(e, p) => IntegerRead::Refused(e, p),
         },
-        ByteRead::NoByte(e, p) => IntegerRead::NoInteger(e, p),
+        ByteRead::Refused(e, p) => IntegerRead::Refused(e, p),
     }
 }
 
@@ -86,25 +102,25 @@ pub fn read_integer(s: &[u8], at: usize) -> IntegerRead
     ensures { λ r. ⌜ integerOf r ≡ reportAt (now (s .entry)) at ⌝ }
 {
     if at > s.len() {
-        return IntegerRead::NoInteger(Refusal::NotValid, 0);
+        return IntegerRead::Refused(Refusal::NotValid, 0);
     }
     integer_from(s, at)
 }
 
 // `count` characters from `at` on.
 fn characters_end(s: &[u8], at: usize, count: usize) -> RunEnd
-    ensures { λ r. ⌜ endOf r ≡ charactersEnd count (now (s .entry)) at ⌝ }
+    ensures { λ r. ⌜ runEndOf r ≡ charactersEnd count (now (s .entry)) at ⌝ }
 {
     let mut left = count;
     let mut pos = at;
     while left > 0 {
         match byte_within(32, 127, s, pos) {
-            ByteRead::Byte(_, _, n) => {
-                pos = n;
+            ByteRead::Byte(byte) => {
+                pos = byte.next;
                 left = left - 1;
             }
-            ByteRead::NoByte(e, p) => {
-                return RunEnd::Broken(e, p);
+            ByteRead::Refused(e, p) => {
+                return RunEnd::Refused(e, p);
             }
         }
     }
@@ -129,17 +145,21 @@ pub fn read_string(s: &[u8], at: usize, list: &mut [i32]) -> StringRead
     ensures { λ r. ⌜ (stringOf r ≡ stringAt (now (s .entry)) at (length (now (list .entry)))) × (now (list .exit) ≡ afterString (stringOf r) (now (s .entry)) at (now (list .entry))) ⌝ }
 {
     match numbers::as_count(read_integer(s, at), MOST_CHARACTERS) {
-        CountRead::Count(count, _, n) => match characters_end(s, n, count) {
+        CountRead::Count(count) => match characters_end(s, count.next, count.value) {
             RunEnd::End(end) => {
-                if count > list.len() {
-                    return StringRead::NoString(Refusal::TooShort, at);
+                if count.value > list.len() {
+                    return StringRead::Refused(Refusal::TooShort, at);
                 }
-                fill(s, n, count, list);
-                StringRead::Entries(count, end)
+                fill(s, count.next, count.value, list);
+                let string = TakenString {
+                    count: count.value,
+                    next: end,
+                };
+                StringRead::Entries(string)
             }
-            RunEnd::Broken(e, p) => StringRead::NoString(e, p),
+            RunEnd::Refused(e, p) => StringRead::Refused(e, p),
         },
-        CountRead::NoCount(e, p) => StringRead::NoString(e, p),
+        CountRead::Refused(e, p) => StringRead::Refused(e, p),
     }
 }
 
@@ -159,14 +179,14 @@ pub fn write_integer(v: i32, out: &mut [u8], at: usize) -> Written
 {
     let mag = numbers::magnitude(v);
     if mag > 65535 {
-        return Written::NotWritten(Refusal::NotValid);
+        return Written::Refused(Refusal::NotValid);
     }
     let bytes = spell(mag, numbers::is_negative(v));
-    wire::lay(&bytes, out, at)
+    wire::write_bytes(&bytes, out, at)
 }
 
 // The length and the characters behind it, from `at` on: all of them, or 7 and none.
-fn lay_string(list: &[i32], out: &mut [u8], at: usize) -> Written
+fn send_string(list: &[i32], out: &mut [u8], at: usize) -> Written
     requires { ⌜ (areCharacters (now list) ≡ true) × (length (now list) ≤ 256) ⌝ }
     ensures { λ r. ⌜ (writtenOf r ≡ writeAt (spellString (now (list .entry))) (length (now (out .entry))) at) × (now (out .exit) ≡ afterWrite (writtenOf r) (spellString (now (list .entry))) (now (out .entry)) at) ⌝ }
 {
@@ -176,10 +196,10 @@ fn lay_string(list: &[i32], out: &mut [u8], at: usize) -> Written
             let length = spell(count as u32, false);
             wire::copy(&length, out, at);
             let from = at + 3;
-            characters::lay(list, out, from);
+            characters::copy(list, out, from);
             Written::Next(next)
         }
-        Written::NotWritten(e) => Written::NotWritten(e),
+        Written::Refused(e) => Written::Refused(e),
     }
 }
 
@@ -188,10 +208,10 @@ pub fn write_string(list: &[i32], out: &mut [u8], at: usize) -> Written
     ensures { λ r. ⌜ (writtenOf r ≡ writeString (now (list .entry)) (length (now (out .entry))) at) × (now (out .exit) ≡ afterWrite (writtenOf r) (spellString (now (list .entry))) (now (out .entry)) at) ⌝ }
 {
     if list.len() > MOST_CHARACTERS {
-        return Written::NotWritten(Refusal::NotValid);
+        return Written::Refused(Refusal::NotValid);
     }
     if characters::are_characters(list) {
-        return lay_string(list, out, at);
+        return send_string(list, out, at);
     }
-    Written::NotWritten(Refusal::NotValid)
+    Written::Refused(Refusal::NotValid)
 }

@@ -6,8 +6,8 @@ use Rattle.report_calls.proofs.ardh_read_integer_report.Tie as tie
 read-integer-requires : tie.Need-read-integer-requires
 read-integer-requires c κs = search needs
 
-enum-known-v : tie.Need-enum-known-v
-enum-known-v c = search needs
+enum-known-integer : tie.Need-enum-known-integer
+enum-known-integer c = search needs
 
 enum-known-e : tie.Need-enum-known-e
 enum-known-e c = search needs
@@ -24,4 +24,4 @@ returns-2 c = search (needs, no-integer)
 pub ardh-read-integer-report-spec : {M : Type 1} → statement M
 ardh-read-integer-report-spec =
     tie.close
-    (tie.spec read-integer-requires enum-known-v enum-known-e number-requires returns returns-2)
+    (tie.spec read-integer-requires enum-known-integer enum-known-e number-requires returns returns-2)

@@ -6,8 +6,8 @@ use Rattle.report_calls.proofs.ardh_read_string_report.Tie as tie
 read-string-requires : tie.Need-read-string-requires
 read-string-requires c κs = search needs
 
-enum-known-n : tie.Need-enum-known-n
-enum-known-n c = search needs
+enum-known-string : tie.Need-enum-known-string
+enum-known-string c = search needs
 
 enum-known-e : tie.Need-enum-known-e
 enum-known-e c = search needs
@@ -32,7 +32,7 @@ ardh-read-string-report-spec =
     tie.close
     (tie.spec
     read-string-requires
-    enum-known-n
+    enum-known-string
     enum-known-e
     number-requires
     same-length

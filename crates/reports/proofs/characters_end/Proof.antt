@@ -17,8 +17,8 @@ loop-holds c = search needs
 byte-within-requires : tie.Need-byte-within-requires Inv-loop μ-loop
 byte-within-requires c κs = search needs
 
-enum-known-n : tie.Need-enum-known-n Inv-loop μ-loop
-enum-known-n c = search (needs, run-broken)
+enum-known-byte : tie.Need-enum-known-byte Inv-loop μ-loop
+enum-known-byte c = search (needs, run-broken)
 
 sub-left : tie.Need-sub-left Inv-loop μ-loop
 sub-left c = search needs
@@ -46,7 +46,7 @@ characters-end-spec =
     μ-loop
     loop-holds
     byte-within-requires
-    enum-known-n
+    enum-known-byte
     sub-left
     loop-less
     loop-again

@@ -16,11 +16,11 @@ is-negative-requires c κs = search needs
 spell-requires : tie.Need-spell-requires
 spell-requires c κs = search needs
 
-slice-aggregate-lay : tie.Need-slice-aggregate-lay
-slice-aggregate-lay c = search needs
+slice-aggregate-write-bytes : tie.Need-slice-aggregate-write-bytes
+slice-aggregate-write-bytes c = search needs
 
-lay-requires : tie.Need-lay-requires
-lay-requires c κs = search needs
+write-bytes-requires : tie.Need-write-bytes-requires
+write-bytes-requires c κs = search needs
 
 same-length : tie.Need-same-length
 same-length c = search needs
@@ -36,7 +36,7 @@ write-integer-spec =
     returns
     is-negative-requires
     spell-requires
-    slice-aggregate-lay
-    lay-requires
+    slice-aggregate-write-bytes
+    write-bytes-requires
     same-length
     returns-2)

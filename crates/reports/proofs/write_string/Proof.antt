@@ -10,8 +10,8 @@ returns c = search (needs, outside, none-changed, too-long)
 are-characters-requires : tie.Need-are-characters-requires
 are-characters-requires c κs = search needs
 
-lay-string-requires : tie.Need-lay-string-requires
-lay-string-requires c κs = search (needs, all-characters)
+send-string-requires : tie.Need-send-string-requires
+send-string-requires c κs = search (needs, all-characters)
 
 same-length : tie.Need-same-length
 same-length c = search needs
@@ -25,4 +25,4 @@ returns-3 c = search (needs, outside, none-changed, no-characters)
 pub write-string-spec : {M : Type 1} → statement M
 write-string-spec =
     tie.close
-    (tie.spec returns are-characters-requires lay-string-requires same-length returns-2 returns-3)
+    (tie.spec returns are-characters-requires send-string-requires same-length returns-2 returns-3)

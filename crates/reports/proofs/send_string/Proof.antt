@@ -1,8 +1,8 @@
 use Rattle.wire.proofs.Laying.{written-so, none-changed, all-changed, before-end}
 use Rattle.reports.proofs.Writings.{string-long, string-laid}
 use borrow.Author.Needs.{needs}
-use Rattle.reports.proofs.lay_string.Statement.{statement}
-use Rattle.reports.proofs.lay_string.Tie as tie
+use Rattle.reports.proofs.send_string.Statement.{statement}
+use Rattle.reports.proofs.send_string.Tie as tie
 
 add-room-for : tie.Need-add-room-for
 add-room-for c = search needs
@@ -28,8 +28,8 @@ copy-requires c κs = search needs
 add-from : tie.Need-add-from
 add-from c = search (needs, before-end)
 
-lay-requires : tie.Need-lay-requires
-lay-requires c κs = search needs
+copy-requires-2 : tie.Need-copy-requires-2
+copy-requires-2 c κs = search needs
 
 enum-known-e : tie.Need-enum-known-e
 enum-known-e c = search needs
@@ -43,8 +43,8 @@ returns c = search (needs, written-so, all-changed, string-long, string-laid)
 returns-2 : tie.Need-returns-2
 returns-2 c = search (needs, written-so, none-changed, string-long)
 
-pub lay-string-spec : {M : Type 1} → statement M
-lay-string-spec =
+pub send-string-spec : {M : Type 1} → statement M
+send-string-spec =
     tie.close
     (tie.spec
     add-room-for
@@ -55,7 +55,7 @@ lay-string-spec =
     slice-aggregate-copy
     copy-requires
     add-from
-    lay-requires
+    copy-requires-2
     enum-known-e
     same-length
     returns
