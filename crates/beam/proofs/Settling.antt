@@ -12,7 +12,7 @@ use mir.Facts.{toZ-ofZ}
 use Rattle.refusals.specs.declared.Refusal.the-variants.{NotValid, SurfaceSize}
 use Rattle.refusals.proofs.Cases.{zero-one, and-left, and-right}
 use Rattle.memory.specs.declared.Point.{Point}
-use Rattle.numbers.specs.Integers.{isNegative}
+use Rattle.signs.specs.Signs.{isNegative}
 use Rattle.beam.specs.declared.Beam.{Beam}
 use Rattle.beam.specs.declared.Setting.{Setting}
 use Rattle.beam.specs.declared.Setting.the-variants.{Set, NotSet}

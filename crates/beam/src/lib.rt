@@ -154,10 +154,10 @@ pub fn fresh(w: usize, h: usize) -> Setting
 fn is_bits_integer(third: i32) -> bool
     ensures { λ r. ⌜ r ≡ bitsFrom third ⌝ }
 {
-    if numbers::is_negative(third) {
+    if signs::is_negative(third) {
         return false;
     }
-    let bits = numbers::magnitude(third) as usize;
+    let bits = signs::magnitude(third) as usize;
     is_bits(bits)
 }
 
@@ -166,7 +166,7 @@ pub fn set_bits(w: usize, h: usize, beam: Beam, first: i32, second: i32, third: 
     ensures { λ r. ⌜ settingOf r ≡ setBits w h beam first second third ⌝ }
 {
     let mut new = beam;
-    new.bits = numbers::magnitude(third) as usize;
+    new.bits = signs::magnitude(third) as usize;
     let allowed = is_bits_integer(third);
     settle(w, h, beam, allowed, new)
 }

@@ -21,7 +21,7 @@ pub fn are_characters(list: &[i32]) -> bool
 pub fn byte_of(v: i32) -> u8
     ensures { λ r. ⌜ r ≡ natAbs v % 256 ⌝ }
 {
-    (numbers::magnitude(v) % 256) as u8
+    (signs::magnitude(v) % 256) as u8
 }
 
 pub fn entry_of(b: u8) -> i32

@@ -12,7 +12,7 @@ use mir.Facts.{toZ-ofZ}
 use Rattle.refusals.specs.Answers.{pick}
 use Rattle.refusals.proofs.Cases.{zero-one}
 use Rattle.memory.specs.declared.Point.{Point}
-use Rattle.numbers.specs.Integers.{isNegative}
+use Rattle.signs.specs.Signs.{isNegative}
 use Rattle.coordinates.specs.Coordinates.{coordinateOf, pointGiven, outside}
 
 below : (v : ℤ) → isNegative v ≡ true → outside ≡ coordinateOf v

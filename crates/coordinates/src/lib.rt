@@ -9,10 +9,10 @@ const OUTSIDE: u16 = 4096;
 fn coordinate(v: i32) -> u16
     ensures { λ r. ⌜ r ≡ coordinateOf v ⌝ }
 {
-    if numbers::is_negative(v) {
+    if signs::is_negative(v) {
         return OUTSIDE;
     }
-    let m = numbers::magnitude(v);
+    let m = signs::magnitude(v);
     if m > 4095 {
         return OUTSIDE;
     }

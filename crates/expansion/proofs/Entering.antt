@@ -14,7 +14,7 @@ use mir.Facts.{toZ-ofZ}
 use Rattle.memory.specs.declared.Remembered.{Remembered}
 use Rattle.refusals.specs.declared.Refusal.the-variants.{NotValid, TooDeep, TooManyMacros}
 use Rattle.refusals.specs.Answers.{pick}
-use Rattle.numbers.specs.Integers.{isNegative}
+use Rattle.signs.specs.Signs.{isNegative}
 use Rattle.macros.specs.Store.{threeBytes, lookedUp, lookedByHeaders}
 use Rattle.macros.proofs.Layouts.{three-lawful}
 use Rattle.macros.proofs.Headers.{headers-look}

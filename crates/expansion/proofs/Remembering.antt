@@ -10,7 +10,7 @@ use lib.IntN.{ℤ}
 use Rattle.memory.specs.declared.Remembered.{Remembered}
 use Rattle.memory.specs.Memory.{inside, freshMemory}
 use Rattle.refusals.proofs.Cases.{by-pick}
-use Rattle.numbers.specs.Integers.{isNegative}
+use Rattle.signs.specs.Signs.{isNegative}
 use Rattle.macros.specs.Store.{threeBytes, lookedUp}
 use Rattle.pieces.specs.declared.Piece.{Piece}
 use Rattle.pieces.specs.declared.Piece.the-variants.{End, Copied, Called, Broken}

@@ -14,7 +14,7 @@ use Rattle.memory.specs.declared.Remembered.{Remembered}
 use Rattle.memory.specs.Memory.{freshMemory}
 use Rattle.refusals.specs.Answers.{pick}
 use Rattle.refusals.proofs.Cases.{by-pick}
-use Rattle.numbers.specs.Integers.{isNegative}
+use Rattle.signs.specs.Signs.{isNegative}
 use Rattle.macros.specs.Store.{threeBytes, lookedUp}
 use Rattle.expansion.proofs.Bodies.{looked-up-short}
 use Rattle.pieces.specs.declared.Piece.{Piece}

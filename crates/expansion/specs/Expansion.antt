@@ -7,7 +7,7 @@ use lib.Dec.{eqb, leb, ltb}
 use lib.IntN.{ℤ}
 use Rattle.memory.specs.declared.Remembered.{Remembered}
 use Rattle.memory.specs.Memory.{freshMemory}
-use Rattle.numbers.specs.Integers.{isNegative}
+use Rattle.signs.specs.Signs.{isNegative}
 use Rattle.refusals.specs.Refusals.{numberOf}
 use Rattle.refusals.specs.Answers.{pick, demand}
 use Rattle.macros.specs.Store.{threeBytes, lookedUp, findRefusal}

@@ -91,7 +91,7 @@ fn enter<'a>(
     let at = from.at;
     let entered = from.entered;
     let kept = from.kept;
-    if numbers::is_negative(number) {
+    if signs::is_negative(number) {
         return Step::Stopped(Refusal::NotValid);
     }
     if depth == 0 {

@@ -17,7 +17,8 @@ use Rattle.refusals.proofs.Cases.{by-pick, done-of, and-left, and-right, Ranged
 use Rattle.wire.specs.Taking.{byteAt}
 use Rattle.wire.specs.Taking.{pairAt as escPairAt}
 use Rattle.wire.proofs.Feeds.{Took, took}
-use Rattle.numbers.specs.Integers.{integerFrom, integerAt, inRange, isNegative, limit}
+use Rattle.signs.specs.Signs.{isNegative}
+use Rattle.numbers.specs.Integers.{integerFrom, integerAt, inRange, limit}
 use Rattle.numbers.specs.Counts.{asCount, countIn, countAt}
 use Rattle.points.specs.declared.PointBytes.{PointBytes}
 use Rattle.points.specs.Layout.{bytesOf}

@@ -15,7 +15,8 @@ use Rattle.refusals.specs.Answers.{Answer, done, refused, Read, then, pick, end
 use Rattle.refusals.proofs.Cases.{by-pick, done-of, zero-one}
 use Rattle.wire.specs.Taking.{byteAt}
 use Rattle.wire.specs.Taking.{pairAt as escPairAt}
-use Rattle.numbers.specs.Integers.{integerFrom, integerAt, inRange, isNegative, limit}
+use Rattle.signs.specs.Signs.{isNegative}
+use Rattle.numbers.specs.Integers.{integerFrom, integerAt, inRange, limit}
 use Rattle.numbers.specs.Counts.{countIn, countAt, mostEntries}
 use Rattle.points.specs.declared.PointBytes.{PointBytes}
 use Rattle.points.specs.Layout.{bytesOf}

@@ -16,7 +16,8 @@ use Rattle.refusals.proofs.Cases.{and-left, and-right, zero-one}
 use Rattle.refusals.proofs.Many.{every-split}
 use Rattle.wire.specs.Sending.{sent}
 use Rattle.wire.proofs.Feeds.{Stands, stands-left, stands-right, stands-between, Feeds, sent-taken}
-use Rattle.numbers.specs.Integers.{spell, isInteger, integerAt}
+use Rattle.signs.specs.Signs.{isInteger}
+use Rattle.numbers.specs.Integers.{spell, integerAt}
 use Rattle.numbers.specs.Counts.{countAt}
 use Rattle.numbers.proofs.RoundTrip.{integer-back, count-back}
 use Rattle.points.specs.Reading.{pointAt}

@@ -17,7 +17,8 @@ use Rattle.refusals.proofs.Cases.{by-pick, by-then, Done, done-of, done-map, is
 use Rattle.wire.specs.Taking.{byteAt}
 use Rattle.wire.specs.Sending.{sent}
 use Rattle.wire.proofs.Feeds.{took, took-least}
-use Rattle.numbers.specs.Integers.{spell, isInteger, integerAt}
+use Rattle.signs.specs.Signs.{isInteger}
+use Rattle.numbers.specs.Integers.{spell, integerAt}
 use Rattle.numbers.specs.Counts.{countAt}
 use Rattle.numbers.proofs.Shortest.{integer-shown, count-shown}
 use Rattle.points.specs.Reading.{pointAt}

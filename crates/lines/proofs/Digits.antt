@@ -14,7 +14,7 @@ use mir.Syntax.{w32}
 use mir.Val.{SFits, toZ, ofZ}
 use mir.Facts.{toZ-ofZ}
 use Rattle.refusals.specs.Answers.{pick}
-use Rattle.numbers.specs.Integers.{isNegative}
+use Rattle.signs.specs.Signs.{isNegative}
 use Rattle.refusals.proofs.Cases.{zero-one}
 use Rattle.lines.specs.Decimals.{digitsOf, decimal, field, fields}
 use Rattle.lines.specs.Pouring.{Poured}

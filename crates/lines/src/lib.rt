@@ -69,9 +69,9 @@ fn put_natural(n: usize, out: &mut [u8], at: usize) -> usize
 fn put_number(v: i32, out: &mut [u8], at: usize) -> usize
     ensures { λ r. ⌜ Poured (now (out .entry)) at (field v) r (now (out .exit)) ⌝ }
 {
-    let size = numbers::magnitude(v) as usize;
+    let size = signs::magnitude(v) as usize;
     let next = put(b' ', out, at);
-    if numbers::is_negative(v) {
+    if signs::is_negative(v) {
         let behind = put(b'-', out, next);
         return put_decimal(size, out, behind);
     }

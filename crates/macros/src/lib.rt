@@ -217,7 +217,7 @@ pub fn is_well_formed(store: &[u8]) -> bool
 pub fn locate<'a>(volatile: &'a [u8], saved: &'a [u8], number: i32) -> Place
     ensures { λ r. ⌜ placeOf r ≡ placed threeBytes (now (volatile .entry)) (now (saved .entry)) number ⌝ }
 {
-    let n = numbers::magnitude(number) as usize;
+    let n = signs::magnitude(number) as usize;
     let Survey::Formed(first) = inspect(volatile, n) else {
         return Place::Nowhere(Refusal::StoreMalformed);
     };
@@ -300,7 +300,7 @@ pub fn look_by_headers<'a>(volatile: &'a [u8], saved: &'a [u8], number: i32) -> 
     if !ranges::is_within(0, 32767, number) {
         return &saved[..0];
     }
-    let n = numbers::magnitude(number) as usize;
+    let n = signs::magnitude(number) as usize;
     let body = body_by_headers(volatile, n);
     if body.len() > 0 {
         return body;
@@ -438,7 +438,7 @@ fn may_define(number: i32, contents: &[i32]) -> bool
 pub fn define(store: &mut [u8], number: i32, contents: &[i32]) -> Defining
     ensures { λ r. ⌜ (definingOf r ≡ defineRefusal threeBytes (now (store .entry)) number (now (contents .entry))) × (now (store .exit) ≡ storeAfter threeBytes (now (store .entry)) number (now (contents .entry))) ⌝ }
 {
-    let n = numbers::magnitude(number) as usize;
+    let n = signs::magnitude(number) as usize;
     let Survey::Formed(gap) = inspect(store, n) else {
         return Defining::NotDefined(Refusal::StoreMalformed);
     };

@@ -23,7 +23,8 @@ use Rattle.numbers.specs.declared.IntegerRead.{IntegerRead}
 use Rattle.numbers.specs.declared.IntegerRead.the-variants as IntegerRead
 use Rattle.numbers.specs.declared.TakenInteger.{TakenInteger}
 use Rattle.numbers.specs.declared.CountRead.the-variants as CountRead
-use Rattle.numbers.specs.Integers.{integerOf, integerFrom, integerAt, lowByte, signedOf, isNegative, mostMagnitude}
+use Rattle.signs.specs.Signs.{signedOf, isNegative, mostMagnitude}
+use Rattle.numbers.specs.Integers.{integerOf, integerFrom, integerAt, lowByte}
 use Rattle.numbers.specs.Counts.{countIn, countAt, countOf}
 
 -- ---- the low byte

@@ -14,7 +14,8 @@ use Rattle.refusals.specs.Answers.{Answer, done, refused, Read, Reads}
 use Rattle.wire.specs.Taking.{byteAt}
 use Rattle.wire.specs.Sending.{sent}
 use Rattle.wire.proofs.Feeds.{Feeds, Plain, Stands, stands-between, sent-taken}
-use Rattle.numbers.specs.Integers.{integerFrom, integerAt, lowByte, inRange, signedOf, isNegative, mostMagnitude, lowOf, spellOf, spell, isInteger}
+use Rattle.signs.specs.Signs.{signedOf, isNegative, mostMagnitude, isInteger}
+use Rattle.numbers.specs.Integers.{integerFrom, integerAt, lowByte, inRange, lowOf, spellOf, spell}
 use Rattle.numbers.specs.Counts.{countIn, countAt}
 use Rattle.numbers.proofs.Reading.{low-byte, high-byte}
 use Rattle.numbers.proofs.Spelling.{spell-one, spell-two, spell-three}

@@ -14,7 +14,8 @@ use Rattle.refusals.proofs.Cases.{by-pick, by-then, Done, done-of, is-done, not
 use Rattle.wire.specs.Taking.{byteAt}
 use Rattle.wire.specs.Sending.{sent}
 use Rattle.wire.proofs.Feeds.{took}
-use Rattle.numbers.specs.Integers.{integerFrom, integerAt, inRange, signedOf, isNegative, mostMagnitude, lowOf, highsOf, spellOf, spell, isInteger}
+use Rattle.signs.specs.Signs.{signedOf, isNegative, mostMagnitude, isInteger}
+use Rattle.numbers.specs.Integers.{integerFrom, integerAt, inRange, lowOf, highsOf, spellOf, spell}
 use Rattle.numbers.specs.Counts.{asCount, countIn, countAt}
 use Rattle.numbers.proofs.Spelling.{spell-one, spell-two, spell-three}
 use Rattle.numbers.proofs.RoundTrip.{ways}

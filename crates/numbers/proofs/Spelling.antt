@@ -5,10 +5,6 @@ use mathlib.Core.Bool.{Bool, true, false}
 use mathlib.Core.List.{List, [], _∷_}
 use native.Mathlib.Omega.{arith}
 use borrow.Author.Tests.{lt-ltb, le-ltb, eq-eqb, ne-eqb}
-use lib.ListN.{length}
-use lib.Seq.{sets}
-use Rattle.memory.specs.declared.Remembered.{Remembered}
-use Rattle.wire.specs.Sending.{sent}
 use Rattle.numbers.specs.Integers.{highsOf, spellOf, lowOf}
 
 module _ (m : ℕ) (t : Bool) where
@@ -25,13 +21,3 @@ module _ (m : ℕ) (t : Bool) where
   spell-three e l = rw (e, ne-eqb (m / 16) 0 (λ q. omega arith), le-ltb (m / 16) 64 l)
 
 pub ruleset spellings = (spell-one, spell-two, spell-three)
-
--- the same, where it is poured
-module _ (kept : Remembered) (m : ℕ) (t : Bool) where
-  pub size-of : (w : List ℕ) {n : ℕ} → n ≡ length (sent kept w) → w ≡ spellOf m t → n ≡ length (sent kept (spellOf m t))
-  size-of w e f = e ∙ ap (λ (x : List ℕ). length (sent kept x)) f
-
-  pub stands-of : (w l : List ℕ) (at : ℕ) {o : List ℕ} → o ≡ sets l at (sent kept w) → w ≡ spellOf m t → o ≡ sets l at (sent kept (spellOf m t))
-  stands-of w l at e f = e ∙ ap (λ (x : List ℕ). sets l at (sent kept x)) f
-
-pub ruleset pourings = (spellings, size-of, stands-of)

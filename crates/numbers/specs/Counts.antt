@@ -6,8 +6,9 @@ use lib.IntN.{ℤ, pos, natAbs}
 use Rattle.memory.specs.declared.Remembered.{Remembered}
 use Rattle.refusals.specs.Refusals.{numberOf}
 use Rattle.refusals.specs.Answers.{Answer, done, refused, Read, then, pick}
+use Rattle.signs.specs.Signs.{isNegative}
 use Rattle.wire.specs.Sending.{sent, writeIf}
-use Rattle.numbers.specs.Integers.{integerAt, isNegative, spell}
+use Rattle.numbers.specs.Integers.{integerAt, spell}
 use Rattle.numbers.specs.declared.CountRead.{CountRead}
 use Rattle.numbers.specs.declared.CountRead.the-variants.{Count, Refused}
 

@@ -8,6 +8,7 @@ use lib.IntN.{ℤ, pos, negsuc, negℤ, natAbs}
 use Rattle.memory.specs.declared.Remembered.{Remembered}
 use Rattle.refusals.specs.Refusals.{numberOf}
 use Rattle.refusals.specs.Answers.{Answer, done, refused, Read, then, pick}
+use Rattle.signs.specs.Signs.{signedOf, isNegative, mostMagnitude, isInteger}
 use Rattle.wire.specs.Taking.{byteAt}
 use Rattle.wire.specs.Sending.{sent, writeIf}
 use Rattle.numbers.specs.declared.IntegerRead.{IntegerRead}
@@ -17,20 +18,6 @@ use Rattle.numbers.specs.declared.IntegerRead.the-variants.{Integer, Ref
 unfoldable pub integerOf : IntegerRead → Answer (Read ℤ)
 integerOf (Integer i) = done (record { value = i .value; place = i .place; next = i .next })
 integerOf (Refused e p) = refused (numberOf e) p
-
--- the number of a magnitude and a sign
-abbrev pub signedOf : ℕ → Bool → ℤ
-signedOf m true = negℤ (pos m)
-signedOf m false = pos m
-
-abbrev pub isNegative : ℤ → Bool
-isNegative (pos n) = false
-isNegative (negsuc n) = true
-
--- the largest magnitude of a negative integer, and of another
-abbrev pub mostMagnitude : Bool → ℕ
-mostMagnitude true = 32768
-mostMagnitude false = 32767
 
 -- ---- reading
 
@@ -71,10 +58,6 @@ spellOf m negative = highsOf (m / 16) ++ (lowOf m negative ∷ [])
 
 abbrev pub spell : ℤ → List ℕ
 spell v = spellOf (natAbs v) (isNegative v)
-
--- "Range -32768..32767"
-abbrev pub isInteger : ℤ → Bool
-isInteger v = leb (natAbs v) (mostMagnitude (isNegative v))
 
 abbrev pub writeInteger : Remembered → ℤ → ℕ → ℕ → Answer ℕ
 writeInteger kept v room at = writeIf (isInteger v) (sent kept (spell v)) room at

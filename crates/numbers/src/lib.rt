@@ -1,20 +1,14 @@
-// Integers and counts of the host syntax: read from any place of any bytes, and written in their shortest spelling.
+// Integers and counts of the host syntax, read from any place of any bytes.
 ghost use mathlib.Core.Path.{_≡_};
 ghost use mathlib.Core.Bool.{true};
 ghost use Prim.Native.Nat.{_<_, _≤_, _*_};
-ghost use lib.ListN.{length};
-ghost use lib.Seq.{sets};
-ghost use lib.Dec.{leb};
-ghost use lib.IntN.{natAbs, pos};
 ghost use Rattle.wire.specs.Taking.{threeAhead};
-ghost use Rattle.wire.specs.Sending.{sent, afterWrite, writtenOf, poured};
-ghost use Rattle.numbers.specs.Integers.{signedOf, isNegative, mostMagnitude, lowByte, integerFrom, integerAt, integerOf, lowOf, spellOf, spell, isInteger, writeInteger};
+ghost use Rattle.numbers.specs.Integers.{lowByte, integerFrom, integerAt, integerOf};
 ghost use Rattle.numbers.specs.Three.{highsBefore, highValue};
-ghost use Rattle.numbers.specs.Counts.{countIn, countAt, countOf, mostEntries, writeCount};
+ghost use Rattle.numbers.specs.Counts.{countIn, countAt, countOf};
 use memory::Remembered;
 use refusals::Refusal;
 use wire::ByteRead;
-use wire::Written;
 
 // "A count is an integer 0..256."
 const MOST_ENTRIES: usize = 256;
@@ -45,45 +39,6 @@ pub enum CountRead {
     Refused(Refusal, usize),
 }
 
-// The number of a magnitude and a sign. Any magnitude of 16 bits has room, so nothing is negated in 16 bits.
-pub fn signed(mag: u16, negative: bool) -> i32
-    ensures { λ r. ⌜ r ≡ signedOf mag negative ⌝ }
-{
-    let m = mag as i32;
-    if negative {
-        return 0 - m;
-    }
-    m
-}
-
-// The magnitude of any number, the least one too.
-pub fn magnitude(v: i32) -> u32
-    ensures { λ r. ⌜ r ≡ natAbs v ⌝ }
-{
-    if v < 0 {
-        let n = v + 1;
-        let m = 0 - n;
-        return m as u32 + 1;
-    }
-    v as u32
-}
-
-pub fn is_negative(v: i32) -> bool
-    ensures { λ r. ⌜ r ≡ isNegative v ⌝ }
-{
-    v < 0
-}
-
-// The largest magnitude of a negative integer, and of another.
-fn most_magnitude(negative: bool) -> u32
-    ensures { λ r. ⌜ r ≡ mostMagnitude negative ⌝ }
-{
-    if negative {
-        return 32768;
-    }
-    32767
-}
-
 // The low byte `low` after high bytes of value `high`.
 fn low_byte(high: u16, low: u8, place: usize, next: usize) -> IntegerRead
     requires { ⌜ high < 4096 ⌝ }
@@ -91,11 +46,11 @@ fn low_byte(high: u16, low: u8, place: usize, next: usize) -> IntegerRead
 {
     let mag = high * 16 + (low % 16) as u16;
     let negative = low < 48;
-    if mag as u32 > most_magnitude(negative) {
+    if mag as u32 > signs::most_magnitude(negative) {
         return IntegerRead::Refused(Refusal::IntegerOutside, place);
     }
     let integer = TakenInteger {
-        value: signed(mag, negative),
+        value: signs::signed(mag, negative),
         place: place,
         next: next,
     };
@@ -213,10 +168,10 @@ pub fn as_count(read: IntegerRead, most: usize) -> CountRead
     match read {
         IntegerRead::Integer(integer) => {
             let v = integer.value;
-            if is_negative(v) {
+            if signs::is_negative(v) {
                 return CountRead::Refused(Refusal::CountOutside, integer.place);
             }
-            let m = magnitude(v) as usize;
+            let m = signs::magnitude(v) as usize;
             if m <= most {
                 let count = TakenCount {
                     value: m,
@@ -235,100 +190,4 @@ pub fn read_count(kept: Remembered, s: &[u8], at: usize) -> CountRead
     ensures { λ r. ⌜ countOf r ≡ countAt kept (now (s .entry)) at ⌝ }
 {
     as_count(read_integer(kept, s, at), MOST_ENTRIES)
-}
-
-// The low byte of a magnitude and a sign.
-pub fn low_of(mag: u32, negative: bool) -> u8
-    ensures { λ r. ⌜ r ≡ lowOf mag negative ⌝ }
-{
-    if negative {
-        return 32 + (mag % 16) as u8;
-    }
-    48 + (mag % 16) as u8
-}
-
-// "Range -32768..32767"
-pub fn is_integer(v: i32) -> bool
-    ensures { λ r. ⌜ r ≡ isInteger v ⌝ }
-{
-    magnitude(v) <= most_magnitude(is_negative(v))
-}
-
-// The bytes of an integer, as far as there is room. Each byte goes to its place by itself: how many there are is asked once.
-fn pour_magnitude(kept: Remembered, mag: u32, negative: bool, out: &mut [u8], at: usize) -> usize
-    requires { ⌜ mag ≤ 32768 ⌝ }
-    ensures { λ r. ⌜ (r ≡ length (sent kept (spellOf mag negative))) × (now (out .exit) ≡ sets (now (out .entry)) at (sent kept (spellOf mag negative))) ⌝ }
-{
-    let low = low_of(mag, negative);
-    let highs = mag / 16;
-    if highs == 0 {
-        return wire::pour_one(kept, low, out, at);
-    }
-    let last = 64 + (highs % 64) as u8;
-    if highs < 64 {
-        return wire::pour_two(kept, last, low, out, at);
-    }
-    let first = 64 + (highs / 64) as u8;
-    wire::pour_three(kept, first, last, low, out, at)
-}
-
-// The bytes of an integer as far as there is room, and how many they are; of a value outside its range none.
-pub fn pour_integer(kept: Remembered, v: i32, out: &mut [u8], at: usize) -> usize
-    ensures { λ r. ⌜ (r ≡ length (poured (isInteger v) (sent kept (spell v)))) × (now (out .exit) ≡ sets (now (out .entry)) at (poured (isInteger v) (sent kept (spell v)))) ⌝ }
-{
-    let negative = is_negative(v);
-    let mag = magnitude(v);
-    if mag > most_magnitude(negative) {
-        return 0;
-    }
-    pour_magnitude(kept, mag, negative, out, at)
-}
-
-// The same for a count.
-pub fn pour_count(kept: Remembered, n: usize, out: &mut [u8], at: usize) -> usize
-    ensures { λ r. ⌜ (r ≡ length (poured (leb n mostEntries) (sent kept (spell (pos n))))) × (now (out .exit) ≡ sets (now (out .entry)) at (poured (leb n mostEntries) (sent kept (spell (pos n))))) ⌝ }
-{
-    if n > MOST_ENTRIES {
-        return 0;
-    }
-    let mag = n as u32;
-    pour_magnitude(kept, mag, false, out, at)
-}
-
-// 8 for a value outside -32768..32767, then 7.
-pub fn write_integer(kept: Remembered, v: i32, out: &mut [u8], at: usize) -> Written
-    ensures { λ r. ⌜ (writtenOf r ≡ writeInteger kept v (length (now (out .entry))) at) × (now (out .exit) ≡ afterWrite (writtenOf r) (sent kept (spell v)) (now (out .entry)) at) ⌝ }
-{
-    if !is_integer(v) {
-        return Written::Refused(Refusal::NotValid);
-    }
-    // poured into no room, which finds the length: nothing lent is touched before it is known to fit
-    let mut none = [0u8; 0];
-    let size = pour_integer(kept, v, &mut none, 0);
-    match wire::room_for(size, out.len(), at) {
-        Written::Next(next) => {
-            pour_integer(kept, v, out, at);
-            Written::Next(next)
-        }
-        Written::Refused(e) => Written::Refused(e),
-    }
-}
-
-// 8 for a count above 256, then 7.
-pub fn write_count(kept: Remembered, n: usize, out: &mut [u8], at: usize) -> Written
-    ensures { λ r. ⌜ (writtenOf r ≡ writeCount kept n (length (now (out .entry))) at) × (now (out .exit) ≡ afterWrite (writtenOf r) (sent kept (spell (pos n))) (now (out .entry)) at) ⌝ }
-{
-    if n > MOST_ENTRIES {
-        return Written::Refused(Refusal::NotValid);
-    }
-    // poured into no room, which finds the length: nothing lent is touched before it is known to fit
-    let mut none = [0u8; 0];
-    let size = pour_count(kept, n, &mut none, 0);
-    match wire::room_for(size, out.len(), at) {
-        Written::Next(next) => {
-            pour_count(kept, n, out, at);
-            Written::Next(next)
-        }
-        Written::Refused(e) => Written::Refused(e),
-    }
 }

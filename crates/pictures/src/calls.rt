@@ -52,7 +52,7 @@ pub fn call_runs(bytes: &mut [u8], lending: Lending, beam: Beam, below: u32) -> 
 
 // "-m for s = 1, m for s = 0"
 fn integer(behind_m: u32, behind_s: u32) -> i32 {
-    numbers::signed(draws::magnitude(behind_m), draws::number(behind_s, 2) == 1)
+    signs::signed(draws::magnitude(behind_m), draws::number(behind_s, 2) == 1)
 }
 
 // A drawn integer, and the x behind it.

@@ -57,7 +57,7 @@ fn one_too_many(k: u16, count: usize) -> i32 {
 
 fn odd_n(which: u32, k: u16, count: usize) -> i32 {
     match which {
-        0 => numbers::signed(1, true),
+        0 => signs::signed(1, true),
         1 => 32768,
         2 => 32767,
         _ => one_too_many(k, count),

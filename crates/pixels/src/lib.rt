@@ -130,7 +130,7 @@ fn entry(list: &[i32], i: usize) -> usize
     ensures { λ r. ⌜ r ≡ getD (map natAbs (now (list .entry))) i 0 ⌝ }
 {
     let v = list[i];
-    numbers::magnitude(v) as usize
+    signs::magnitude(v) as usize
 }
 
 // The `n` pixels of raster characters.
@@ -232,7 +232,7 @@ fn are_raster_characters(bits: usize, n: i32, list: &[i32]) -> bool
     ensures { λ r. ⌜ r ≡ rasterCharacters bits n (now (list .entry)) ⌝ }
 {
     let per = 6 / bits;
-    let count = numbers::magnitude(n) as usize;
+    let count = signs::magnitude(n) as usize;
     let full = count + per - 1;
     if pixel_characters(list) == full / per {
         return ranges::are_within(32, 96, list);
@@ -316,7 +316,7 @@ pub fn draw_raster(
     match raster_verdict(w, h, surface.len(), beam, n, list) {
         Verdict::Refused(refusal) => Drawing::NotDrawn(refusal, beam),
         Verdict::Allowed => {
-            let count = numbers::magnitude(n) as usize;
+            let count = signs::magnitude(n) as usize;
             let after = lay_raster(surface, w, h, beam, count, list);
             Drawing::Drawn(count, after)
         }

@@ -6,10 +6,10 @@ ghost use Rattle.ranges.specs.Ranges.{within};
 pub fn is_within(least: u32, most: u32, v: i32) -> bool
     ensures { λ r. ⌜ r ≡ within least most v ⌝ }
 {
-    if numbers::is_negative(v) {
+    if signs::is_negative(v) {
         return false;
     }
-    let m = numbers::magnitude(v);
+    let m = signs::magnitude(v);
     if m < least {
         return false;
     }

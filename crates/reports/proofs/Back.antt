@@ -14,7 +14,8 @@ use lib.IntN.{ℤ, pos, negsuc, natAbs}
 use Rattle.refusals.specs.Answers.{every, Answer, done, refused, Read, endsAfter}
 use Rattle.refusals.proofs.Cases.{by-pick, by-then, Done, done-of, done-map, is-done, not-done, zero-one}
 use Rattle.wire.proofs.Feeds.{Stands}
-use Rattle.numbers.specs.Integers.{signedOf, isNegative, lowOf}
+use Rattle.signs.specs.Signs.{signedOf, isNegative}
+use Rattle.numbers.specs.Integers.{lowOf}
 use Rattle.numbers.specs.Counts.{asCount, countIn}
 use Rattle.characters.specs.Characters.{isCharacter, areCharacters, asBytes}
 use Rattle.reports.specs.declared.TakenString.{TakenString}

@@ -13,7 +13,8 @@ use Rattle.refusals.specs.Answers.{done, Reads, endsAfter}
 use Rattle.refusals.proofs.Cases.{and-left, and-right}
 use Rattle.refusals.proofs.Many.{every-split}
 use Rattle.wire.proofs.Feeds.{Stands, stands-between, stands-left, stands-right}
-use Rattle.numbers.specs.Integers.{signedOf, isNegative, lowOf}
+use Rattle.signs.specs.Signs.{signedOf, isNegative}
+use Rattle.numbers.specs.Integers.{lowOf}
 use Rattle.numbers.specs.Counts.{countIn}
 use Rattle.ranges.proofs.Entries.{within-range}
 use Rattle.characters.specs.Characters.{isCharacter, areCharacters, asBytes}

@@ -22,7 +22,8 @@ use Rattle.numbers.specs.declared.IntegerRead.the-variants as IntegerRead
 use Rattle.numbers.specs.declared.CountRead.{CountRead}
 use Rattle.numbers.specs.declared.CountRead.the-variants as CountRead
 use Rattle.numbers.specs.declared.TakenCount.{TakenCount}
-use Rattle.numbers.specs.Integers.{integerOf, isNegative}
+use Rattle.signs.specs.Signs.{isNegative}
+use Rattle.numbers.specs.Integers.{integerOf}
 use Rattle.numbers.specs.Counts.{countIn, countOf}
 use Rattle.reports.specs.declared.StringRead.the-variants as StringRead
 use Rattle.reports.specs.declared.RunEnd.{RunEnd}

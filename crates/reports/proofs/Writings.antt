@@ -12,7 +12,7 @@ use mir.Syntax.{w32}
 use mir.Val.{SFits, toZ, ofZ}
 use mir.Facts.{toZ-ofZ}
 use Rattle.refusals.proofs.Many.{sets-append}
-use Rattle.numbers.specs.Integers.{isNegative}
+use Rattle.signs.specs.Signs.{isNegative}
 use Rattle.characters.specs.Characters.{areCharacters, asBytes, lowBytes}
 use Rattle.characters.proofs.Entries.{all-bytes}
 use Rattle.reports.specs.Writing.{spellReportOf, spellReport, isReport, spellString, isString}

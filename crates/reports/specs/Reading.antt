@@ -9,7 +9,7 @@ use lib.Dec.{ltb, leb}
 use lib.IntN.{ℤ}
 use Rattle.refusals.specs.Refusals.{numberOf}
 use Rattle.refusals.specs.Answers.{Answer, done, refused, Read, then, pick, endsAfter}
-use Rattle.numbers.specs.Integers.{signedOf}
+use Rattle.signs.specs.Signs.{signedOf}
 use Rattle.numbers.specs.Counts.{countIn}
 use Rattle.characters.specs.Characters.{asEntries}
 use Rattle.reports.specs.declared.StringRead.{StringRead}

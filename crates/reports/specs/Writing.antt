@@ -7,7 +7,8 @@ use lib.Dec.{leb}
 use lib.IntN.{ℤ, pos, natAbs}
 use Rattle.refusals.specs.Answers.{Answer}
 use Rattle.wire.specs.Sending.{writeIf}
-use Rattle.numbers.specs.Integers.{isNegative, lowOf}
+use Rattle.signs.specs.Signs.{isNegative}
+use Rattle.numbers.specs.Integers.{lowOf}
 use Rattle.characters.specs.Characters.{areCharacters, asBytes}
 use Rattle.reports.specs.Reading.{mostCharacters}
 

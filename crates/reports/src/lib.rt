@@ -72,7 +72,7 @@ fn value_of(first: u8, second: u8, low: u8) -> i32
     let middle = (second - 32) as u16 * 16;
     let sum = high + middle;
     let mag = sum + (low % 16) as u16;
-    numbers::signed(mag, low < 48)
+    signs::signed(mag, low < 48)
 }
 
 fn integer_from(s: &[u8], at: usize) -> IntegerRead
@@ -169,7 +169,7 @@ fn spell(mag: u32, negative: bool) -> [u8; 3]
 {
     let first = 32 + (mag / 1024) as u8;
     let second = 32 + (mag / 16 % 64) as u8;
-    let low = numbers::low_of(mag, negative);
+    let low = spelling::low_of(mag, negative);
     [first, second, low]
 }
 
@@ -177,11 +177,11 @@ fn spell(mag: u32, negative: bool) -> [u8; 3]
 pub fn write_integer(v: i32, out: &mut [u8], at: usize) -> Written
     ensures { λ r. ⌜ (writtenOf r ≡ writeReport v (length (now (out .entry))) at) × (now (out .exit) ≡ afterWrite (writtenOf r) (spellReport v) (now (out .entry)) at) ⌝ }
 {
-    let mag = numbers::magnitude(v);
+    let mag = signs::magnitude(v);
     if mag > 65535 {
         return Written::Refused(Refusal::NotValid);
     }
-    let bytes = spell(mag, numbers::is_negative(v));
+    let bytes = spell(mag, signs::is_negative(v));
     wire::write_bytes(&bytes, out, at)
 }
 

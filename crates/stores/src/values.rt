@@ -24,7 +24,7 @@ struct Drawn {
 // "m drawn from 32768, s from 2; -m for s = 1, m for s = 0"
 fn integer(behind_m: u32, behind_s: u32) -> i32 {
     let m = (behind_m / 65536 % 32768) as u16;
-    numbers::signed(m, draws::number(behind_s, 2) == 1)
+    signs::signed(m, draws::number(behind_s, 2) == 1)
 }
 
 // "each 32 + a number drawn from 96"

@@ -41,7 +41,7 @@ fn integer(x: u32) -> Drawn {
     let behind_m = draws::next(behind_k);
     let m = draws::number(behind_m, most(k)) % 32768;
     if k == 3 {
-        let v = numbers::signed((m + 1) as u16, true);
+        let v = signs::signed((m + 1) as u16, true);
         return Drawn {
             value: v,
             x: behind_m,
@@ -49,7 +49,7 @@ fn integer(x: u32) -> Drawn {
     }
     let behind_s = draws::next(behind_m);
     let negative = draws::number(behind_s, 2) == 1;
-    let v = numbers::signed(m as u16, negative);
+    let v = signs::signed(m as u16, negative);
     Drawn {
         value: v,
         x: behind_s,

@@ -21,8 +21,8 @@ pub fn place(h: u32, at: usize) -> u32 {
 
 // "1 if it is negative and 0 if not, then its magnitude"
 pub fn signed(h: u32, v: i32) -> u32 {
-    let mag = numbers::magnitude(v);
-    if numbers::is_negative(v) {
+    let mag = signs::magnitude(v);
+    if signs::is_negative(v) {
         return number(number(h, 1), mag);
     }
     number(number(h, 0), mag)

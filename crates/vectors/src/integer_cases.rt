@@ -22,7 +22,7 @@ fn minus(mag: u32) -> i32 {
 pub fn integers(h: u32, case: u32) -> u32 {
     let kept = memory::fresh();
     let mut out = [255; 8];
-    let answer = numbers::write_integer(kept, value(case, 40000), &mut out, 1);
+    let answer = spelling::write_integer(kept, value(case, 40000), &mut out, 1);
     let after = digest::bytes(digest::written(h, answer), &out);
     digest::integer_read(after, numbers::read_integer(kept, &out, 1))
 }
@@ -30,7 +30,7 @@ pub fn integers(h: u32, case: u32) -> u32 {
 pub fn counts(h: u32, case: u32) -> u32 {
     let kept = memory::fresh();
     let mut out = [255; 8];
-    let answer = numbers::write_count(kept, case as usize, &mut out, 1);
+    let answer = spelling::write_count(kept, case as usize, &mut out, 1);
     let after = digest::bytes(digest::written(h, answer), &out);
     digest::count_read(after, numbers::read_count(kept, &out, 1))
 }
@@ -38,6 +38,6 @@ pub fn counts(h: u32, case: u32) -> u32 {
 pub fn counts_read(h: u32, case: u32) -> u32 {
     let kept = memory::fresh();
     let mut out = [255; 8];
-    numbers::write_integer(kept, value(case, 32768), &mut out, 0);
+    spelling::write_integer(kept, value(case, 32768), &mut out, 0);
     digest::count_read(h, numbers::read_count(kept, &out, 0))
 }

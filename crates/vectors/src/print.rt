@@ -10,10 +10,10 @@ pub fn number(n: u64) {
 }
 
 pub fn signed(v: i32) {
-    if numbers::is_negative(v) {
+    if signs::is_negative(v) {
         text(b"-");
     }
-    number(numbers::magnitude(v) as u64);
+    number(signs::magnitude(v) as u64);
 }
 
 // The byte that stands `i` places behind the first, with a blank before it.

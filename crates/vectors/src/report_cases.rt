@@ -18,7 +18,7 @@ fn entry(i: usize, n: usize) -> i32
     requires { ⌜ i < 260 ⌝ }
     requires { ⌜ n < 261 ⌝ }
 {
-    numbers::signed((32 + (7 * i + n) % 96) as u16, false)
+    signs::signed((32 + (7 * i + n) % 96) as u16, false)
 }
 
 // The longest list, of which a case has the first `n` entries.

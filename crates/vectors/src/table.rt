@@ -78,7 +78,7 @@ fn with_byte(row: Row) -> Row {
 // Whether the value is written just as the manual prints it.
 fn is_written_so(v: i32, bytes: &[u8]) -> bool {
     let mut out = [255; 8];
-    match numbers::write_integer(memory::fresh(), v, &mut out, 0) {
+    match spelling::write_integer(memory::fresh(), v, &mut out, 0) {
         Written::Next(n) => check::same(front(&out, n), bytes),
         Written::NotWritten(_) => false,
     }
@@ -120,7 +120,7 @@ fn with_row(tally: Tally, v: i32, bytes: &[u8]) -> Tally {
 
 // A row counts once its line has ended.
 fn ended(tally: Tally, row: Row) -> Tally {
-    let v = numbers::signed(row.mag, row.negative);
+    let v = signs::signed(row.mag, row.negative);
     let bytes = row.bytes;
     let len = row.len;
     with_row(tally, v, front(&bytes, len))

@@ -26,7 +26,7 @@ fn integer(v: i32) {
     print::text(b"integer ");
     print::signed(v);
     let mut out = [255; 8];
-    let answer = numbers::write_integer(memory::fresh(), v, &mut out, 0);
+    let answer = spelling::write_integer(memory::fresh(), v, &mut out, 0);
     written(answer, &out);
 }
 

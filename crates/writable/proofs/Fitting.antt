@@ -12,7 +12,7 @@ use Rattle.memory.specs.declared.Remembered.{Remembered}
 use Rattle.memory.specs.Memory.{inside}
 use Rattle.refusals.specs.Answers.{every}
 use Rattle.refusals.proofs.Cases.{and-true, and-assoc}
-use Rattle.numbers.specs.Integers.{isInteger}
+use Rattle.signs.specs.Signs.{isInteger}
 use Rattle.characters.specs.Characters.{isCharacter}
 use Rattle.table.specs.declared.Kind.{Kind}
 use Rattle.table.specs.declared.Found.{Found}

@@ -9,7 +9,7 @@ use lib.IntN.{ℤ}
 use Rattle.memory.specs.declared.Remembered.{Remembered}
 use Rattle.memory.specs.Memory.{inside}
 use Rattle.refusals.specs.Answers.{every}
-use Rattle.numbers.specs.Integers.{isInteger}
+use Rattle.signs.specs.Signs.{isInteger}
 use Rattle.numbers.specs.Counts.{mostEntries}
 use Rattle.characters.specs.Characters.{isCharacter}
 use Rattle.table.specs.declared.Kind.{Kind}

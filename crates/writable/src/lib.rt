@@ -67,7 +67,7 @@ fn is_entry(entry: Entry, v: i32) -> bool
     ensures { λ r. ⌜ r ≡ isEntry entry v ⌝ }
 {
     match entry {
-        Entry::AnInteger => numbers::is_integer(v),
+        Entry::AnInteger => signs::is_integer(v),
         Entry::ACharacter => characters::is_character(v),
     }
 }

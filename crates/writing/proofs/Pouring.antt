@@ -13,7 +13,8 @@ use Rattle.memory.specs.Memory.{inside, remember}
 use Rattle.refusals.proofs.Cases.{and-left, and-right}
 use Rattle.refusals.proofs.Many.{sets-append, every-split}
 use Rattle.wire.specs.Sending.{sent, poured}
-use Rattle.numbers.specs.Integers.{spell, isInteger}
+use Rattle.signs.specs.Signs.{isInteger}
+use Rattle.numbers.specs.Integers.{spell}
 use Rattle.numbers.proofs.Shortest.{spell-few}
 use Rattle.points.specs.Writing.{spellPoint}
 use Rattle.points.proofs.Shortest.{point-few}

@@ -26,7 +26,7 @@ fn pour_entry(kept: Remembered, entry: Entry, v: i32, out: &mut [u8], at: usize)
     ensures { λ r. ⌜ Poured (spellEntry entry kept v) 3 (now (out .entry)) (now (out .exit)) at r ⌝ }
 {
     match entry {
-        Entry::AnInteger => numbers::pour_integer(kept, v, out, at),
+        Entry::AnInteger => spelling::pour_integer(kept, v, out, at),
         Entry::ACharacter => {
             let b = characters::byte_of(v);
             wire::pour_one(kept, b, out, at)
@@ -136,7 +136,7 @@ fn pour_list(kept: Remembered, entry: Entry, list: &[i32], out: &mut [u8], at: u
     requires { ⌜ (isTail (counted entry) (now list) ≡ true) × (at ≤ 58) ⌝ }
     ensures { λ r. ⌜ Poured (spellTail kept (counted entry) (now (list .entry))) 771 (now (out .entry)) (now (out .exit)) at r ⌝ }
 {
-    let n = numbers::pour_count(kept, list.len(), out, at);
+    let n = spelling::pour_count(kept, list.len(), out, at);
     let next = at + n;
     let m = pour_all(kept, entry, list, out, next);
     n + m

@@ -1,7 +1,7 @@
 use Prim.Native.Nat.{_%_}
 use native.Mathlib.Omega.{arith}
 use mir.Syntax.{w32}
-use Rattle.numbers.proofs.Signs.{less-fits}
+use Rattle.signs.proofs.Signs.{less-fits}
 use borrow.Author.Needs.{needs}
 use Rattle.vectors.proofs.integer_cases.minus.Statement.{statement}
 use Rattle.vectors.proofs.integer_cases.minus.Tie as tie

@@ -2,11 +2,11 @@ use native.Mathlib.Omega.{arith}
 use mathlib.Core.Path.{_∙_, sym, ap}
 use mir.Syntax.{w32}
 use mir.Facts.{toZ-pos}
-use Rattle.numbers.specs.Integers.{signedOf}
-use Rattle.numbers.proofs.Signs.{less-fits, less-is}
+use Rattle.signs.specs.Signs.{signedOf}
+use Rattle.signs.proofs.Signs.{less-fits, less-is}
 use borrow.Author.Needs.{needs}
-use Rattle.numbers.proofs.signed.Statement.{statement}
-use Rattle.numbers.proofs.signed.Tie as tie
+use Rattle.signs.proofs.signed.Statement.{statement}
+use Rattle.signs.proofs.signed.Tie as tie
 
 cast-m : tie.Need-cast-m
 cast-m c = search needs

@@ -1,7 +1,7 @@
-use Rattle.numbers.proofs.Writing.{integer-tested}
+use Rattle.signs.proofs.Integers.{integer-tested}
 use borrow.Author.Needs.{needs}
-use Rattle.numbers.proofs.is_integer.Statement.{statement}
-use Rattle.numbers.proofs.is_integer.Tie as tie
+use Rattle.signs.proofs.is_integer.Statement.{statement}
+use Rattle.signs.proofs.is_integer.Tie as tie
 
 magnitude-requires : tie.Need-magnitude-requires
 magnitude-requires c κs = search needs

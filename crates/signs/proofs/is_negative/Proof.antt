@@ -1,7 +1,7 @@
 use mir.Syntax.{w32}
-use Rattle.numbers.proofs.Signs.{sign-is}
-use Rattle.numbers.proofs.is_negative.Statement.{statement}
-use Rattle.numbers.proofs.is_negative.Tie as tie
+use Rattle.signs.proofs.Signs.{sign-is}
+use Rattle.signs.proofs.is_negative.Statement.{statement}
+use Rattle.signs.proofs.is_negative.Tie as tie
 
 returns : tie.Need-returns
 returns c = sign-is w32 (c .args .v) (c .fits .v)

@@ -1,8 +1,8 @@
 use Rattle.refusals.proofs.Rules.{tests}
 use Rattle.wire.proofs.Laying.{outside, none-changed, poured-so, poured-stands}
 use borrow.Author.Needs.{needs}
-use Rattle.numbers.proofs.write_count.Statement.{statement}
-use Rattle.numbers.proofs.write_count.Tie as tie
+use Rattle.spelling.proofs.write_count.Statement.{statement}
+use Rattle.spelling.proofs.write_count.Tie as tie
 
 returns : tie.Need-returns
 returns c = search (tests, outside, none-changed)

@@ -1,6 +1,6 @@
 use borrow.Author.Needs.{needs}
-use Rattle.numbers.proofs.low_of.Statement.{statement}
-use Rattle.numbers.proofs.low_of.Tie as tie
+use Rattle.spelling.proofs.low_of.Statement.{statement}
+use Rattle.spelling.proofs.low_of.Tie as tie
 
 cast-result : tie.Need-cast-result
 cast-result c = search needs

@@ -1,8 +1,8 @@
 use mir.Syntax.{w32}
-use Rattle.numbers.proofs.Signs.{up-fits, back-fits, back-cast, whole-is, magnitude-fits, plain-cast}
+use Rattle.signs.proofs.Signs.{up-fits, back-fits, back-cast, whole-is, magnitude-fits, plain-cast}
 use borrow.Author.Needs.{needs}
-use Rattle.numbers.proofs.magnitude.Statement.{statement}
-use Rattle.numbers.proofs.magnitude.Tie as tie
+use Rattle.signs.proofs.magnitude.Statement.{statement}
+use Rattle.signs.proofs.magnitude.Tie as tie
 
 add-n : tie.Need-add-n
 add-n c = up-fits w32 (c .before .args .v) (c .before .fits .v) (c .if1 .taken)

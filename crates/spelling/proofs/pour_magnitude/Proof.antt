@@ -1,7 +1,7 @@
-use Rattle.numbers.proofs.Spelling.{pourings}
+use Rattle.spelling.proofs.Pouring.{pourings}
 use borrow.Author.Needs.{needs}
-use Rattle.numbers.proofs.pour_magnitude.Statement.{statement}
-use Rattle.numbers.proofs.pour_magnitude.Tie as tie
+use Rattle.spelling.proofs.pour_magnitude.Statement.{statement}
+use Rattle.spelling.proofs.pour_magnitude.Tie as tie
 
 low-of-requires : tie.Need-low-of-requires
 low-of-requires c κs = search needs

@@ -1,8 +1,8 @@
 use Rattle.wire.proofs.Laying.{outside, none-changed}
-use Rattle.numbers.proofs.Writing.{no-integer, integer-so, integer-stands}
+use Rattle.spelling.proofs.Writing.{no-integer, integer-so, integer-stands}
 use borrow.Author.Needs.{needs}
-use Rattle.numbers.proofs.write_integer.Statement.{statement}
-use Rattle.numbers.proofs.write_integer.Tie as tie
+use Rattle.spelling.proofs.write_integer.Statement.{statement}
+use Rattle.spelling.proofs.write_integer.Tie as tie
 
 is-integer-requires : tie.Need-is-integer-requires
 is-integer-requires c κs = search needs

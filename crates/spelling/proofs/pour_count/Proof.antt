@@ -1,8 +1,8 @@
 use Rattle.refusals.proofs.Rules.{tests}
 use Rattle.wire.proofs.Laying.{pours-size, pours-stand, none-size, none-stand, sent-same}
 use borrow.Author.Needs.{needs}
-use Rattle.numbers.proofs.pour_count.Statement.{statement}
-use Rattle.numbers.proofs.pour_count.Tie as tie
+use Rattle.spelling.proofs.pour_count.Statement.{statement}
+use Rattle.spelling.proofs.pour_count.Tie as tie
 
 returns : tie.Need-returns
 returns c = search (tests, none-size, none-stand)

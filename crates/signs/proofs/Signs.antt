@@ -11,7 +11,7 @@ use mir.Syntax.{Width, w8, w16, w32, w64, w128}
 use mir.Val.{SFits, Fits, toZ, ofZ, hbits}
 use mir.Facts.{toZ-pos, toZ-ofZ, fits-ofZ, fits-natAbs}
 use Rattle.refusals.proofs.Cases.{zero-one}
-use Rattle.numbers.specs.Integers.{isNegative}
+use Rattle.signs.specs.Signs.{isNegative}
 
 -- ---- from a magnitude to a number
 

@@ -1,11 +1,9 @@
--- Whether a number is inside its range, and its spelling, by what the parts of its writing gave.
-use Prim.Native.Nat.{ℕ, _≤_, _<_}
-use mathlib.Core.Path.{_≡_, refl, sym, _∙_, ap}
+-- An integer's spelling, and its writing, by what the parts gave.
+use Prim.Native.Nat.{ℕ}
+use mathlib.Core.Path.{_≡_, sym, _∙_}
 use mathlib.Core.Bool.{Bool, true, false, not}
 use mathlib.Core.List.{List}
-use native.Mathlib.Omega.{arith}
-use borrow.Author.Tests.{le-leb, lt-leb, not-true, not-false}
-use lib.Dec.{leb}
+use borrow.Author.Tests.{not-true, not-false}
 use lib.IntN.{ℤ, natAbs}
 use lib.ListN.{length}
 use lib.Seq.{sets}
@@ -13,35 +11,17 @@ use mir.Syntax.{w32}
 use mir.Val.{SFits, toZ, ofZ}
 use mir.Facts.{toZ-ofZ}
 use Rattle.memory.specs.declared.Remembered.{Remembered}
+use Rattle.signs.specs.Signs.{isNegative, isInteger}
+use Rattle.signs.proofs.Integers.{sign-given, size-given}
 use Rattle.wire.specs.declared.Written.{Written}
 use Rattle.wire.specs.declared.Written.the-variants.{Next}
 use Rattle.wire.specs.Sending.{sent, writtenOf, roomFor, afterWrite, poured}
 use Rattle.wire.proofs.Laying.{poured-so, poured-stands}
-use Rattle.numbers.specs.Integers.{isNegative, mostMagnitude, spellOf, spell, isInteger, writeInteger}
-
-pub under-limit : (t : Bool) {k m : ℕ} → k ≡ mostMagnitude t → m ≤ k → m ≤ 32768
-under-limit true e h = omega arith
-under-limit false e h = omega arith
+use Rattle.numbers.specs.Integers.{spellOf, spell, writeInteger}
 
 -- a signed argument comes back from a callee's contract as the machine reads it, `toZ w (ofZ w v)`
-module _ (v : ℤ) (f : SFits w32 v) {m : ℕ} {t : Bool} (et : t ≡ isNegative (toZ w32 (ofZ w32 v))) (em : m ≡ natAbs (toZ w32 (ofZ w32 v))) where
-  pub sign-is : t ≡ isNegative v
-  sign-is = rw (toZ-ofZ f) at et
-
-  pub size-is : m ≡ natAbs v
-  size-is = rw (toZ-ofZ f) at em
-
-  pub not-integer : {k : ℕ} → k ≡ mostMagnitude t → k < m → isInteger v ≡ false
-  not-integer {k} ek h = rw (← size-is, ← sign-is, ← ek, lt-leb m k h)
-
-  pub an-integer : {k : ℕ} → k ≡ mostMagnitude t → m ≤ k → isInteger v ≡ true
-  an-integer {k} ek h = rw (← size-is, ← sign-is, ← ek, le-leb m k h)
-
-  pub integer-spelled : {w : List ℕ} → w ≡ spellOf m t → w ≡ spell v
-  integer-spelled e = e ∙ rw (size-is, sign-is)
-
-  pub integer-tested : {k : ℕ} → k ≡ mostMagnitude t → leb m k ≡ isInteger v
-  integer-tested ek = rw (← size-is, ← sign-is, ← ek)
+pub integer-spelled : (v : ℤ) → SFits w32 v → {m : ℕ} {t : Bool} → t ≡ isNegative (toZ w32 (ofZ w32 v)) → m ≡ natAbs (toZ w32 (ofZ w32 v)) → {w : List ℕ} → w ≡ spellOf m t → w ≡ spell v
+integer-spelled v f et em e = e ∙ rw (size-given v f et em, sign-given v f et em)
 
 -- ---- written by pouring
 

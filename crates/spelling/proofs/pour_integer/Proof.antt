@@ -1,8 +1,9 @@
 use Rattle.wire.proofs.Laying.{pours-size, pours-stand, none-size, none-stand, sent-same}
-use Rattle.numbers.proofs.Writing.{not-integer, an-integer, integer-spelled, under-limit}
+use Rattle.signs.proofs.Integers.{not-integer, an-integer, under-limit}
+use Rattle.spelling.proofs.Writing.{integer-spelled}
 use borrow.Author.Needs.{needs}
-use Rattle.numbers.proofs.pour_integer.Statement.{statement}
-use Rattle.numbers.proofs.pour_integer.Tie as tie
+use Rattle.spelling.proofs.pour_integer.Statement.{statement}
+use Rattle.spelling.proofs.pour_integer.Tie as tie
 
 is-negative-requires : tie.Need-is-negative-requires
 is-negative-requires c κs = search needs
