@@ -7,6 +7,7 @@ use Rattle.memory.specs.declared.Remembered.{Remembered}
 use Rattle.refusals.specs.Refusals.{numberOf}
 use Rattle.refusals.specs.Answers.{Answer, done, refused, Read, then, pick}
 use Rattle.signs.specs.Signs.{isNegative}
+use Rattle.ranges.specs.Ranges.{mostEntries}
 use Rattle.wire.specs.Sending.{sent, writeIf}
 use Rattle.numbers.specs.Integers.{integerAt, spell}
 use Rattle.numbers.specs.declared.CountRead.{CountRead}
@@ -16,10 +17,6 @@ use Rattle.numbers.specs.declared.CountRead.the-variants.{Count, Refused
 unfoldable pub countOf : CountRead → Answer (Read ℕ)
 countOf (Count c) = done (record { value = c .value; place = c .place; next = c .next })
 countOf (Refused e p) = refused (numberOf e) p
-
--- the most entries of a string or an array
-abbrev pub mostEntries : ℕ
-mostEntries = 256
 
 -- an integer that was read, as a count of at most most: "count negative or above 256 (place: its low byte)"
 abbrev pub asCount : ℕ → Read ℤ → Answer (Read ℕ)

@@ -7,11 +7,9 @@ ghost use Rattle.numbers.specs.Integers.{lowByte, integerFrom, integerAt
 ghost use Rattle.numbers.specs.Three.{highsBefore, highValue};
 ghost use Rattle.numbers.specs.Counts.{countIn, countAt, countOf};
 use memory::Remembered;
+use ranges::MOST_ENTRIES;
 use refusals::Refusal;
 use wire::ByteRead;
-
-// "A count is an integer 0..256."
-const MOST_ENTRIES: usize = 256;
 
 // An integer that was read, the place of its low byte, and where reading goes on.
 pub struct TakenInteger {

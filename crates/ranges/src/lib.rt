@@ -1,7 +1,10 @@
-// Numbers of the syntax and entries of a lent list, tested against a range that does not reach below 0.
+// How many entries a list may have; numbers and entries of a lent list, tested against a range that does not reach below 0.
 ghost use mathlib.Core.Path.{_≡_};
 ghost use Rattle.refusals.specs.Answers.{every};
 ghost use Rattle.ranges.specs.Ranges.{within};
+
+// "An array or string in one command has at most 256 entries"; report strings have a limit of their own.
+pub const MOST_ENTRIES: usize = 256;
 
 pub fn is_within(least: u32, most: u32, v: i32) -> bool
     ensures { λ r. ⌜ r ≡ within least most v ⌝ }

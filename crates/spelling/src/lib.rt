@@ -6,15 +6,14 @@ ghost use lib.Seq.{sets};
 ghost use lib.Dec.{leb};
 ghost use lib.IntN.{pos};
 ghost use Rattle.signs.specs.Signs.{isInteger};
+ghost use Rattle.ranges.specs.Ranges.{mostEntries};
 ghost use Rattle.wire.specs.Sending.{sent, afterWrite, writtenOf, poured};
 ghost use Rattle.numbers.specs.Integers.{lowOf, spellOf, spell, writeInteger};
-ghost use Rattle.numbers.specs.Counts.{mostEntries, writeCount};
+ghost use Rattle.numbers.specs.Counts.{writeCount};
 use memory::Remembered;
+use ranges::MOST_ENTRIES;
 use refusals::Refusal;
 use wire::Written;
-
-// "A count is an integer 0..256."
-const MOST_ENTRIES: usize = 256;
 
 // The low byte of a magnitude and a sign.
 pub fn low_of(mag: u32, negative: bool) -> u8
@@ -93,14 +92,6 @@ pub fn write_count(kept: Remembered, n: usize, out: &mut [u8], at: usize) -> Wri
     if n > MOST_ENTRIES {
         return Written::Refused(Refusal::NotValid);
     }
-    // poured into no room, which finds the length: nothing lent is touched before it is known to fit
-    let mut none = [0u8; 0];
-    let size = pour_count(kept, n, &mut none, 0);
-    match wire::room_for(size, out.len(), at) {
-        Written::Next(next) => {
-            pour_count(kept, n, out, at);
-            Written::Next(next)
-        }
-        Written::Refused(e) => Written::Refused(e),
-    }
+    let v = n as i32;
+    write_integer(kept, v, out, at)
 }

@@ -1,5 +1,5 @@
 use Rattle.refusals.proofs.Rules.{tests}
-use Rattle.wire.proofs.Laying.{pours-size, pours-stand, none-size, none-stand, sent-same}
+use Rattle.wire.proofs.Laying.{pours-size, pours-stand, none-size, none-stand}
 use borrow.Author.Needs.{needs}
 use Rattle.spelling.proofs.pour_count.Statement.{statement}
 use Rattle.spelling.proofs.pour_count.Tie as tie
@@ -17,7 +17,7 @@ same-length : tie.Need-same-length
 same-length c = search needs
 
 returns-2 : tie.Need-returns-2
-returns-2 c = search (tests, pours-size, pours-stand, sent-same)
+returns-2 c = search (tests, pours-size, pours-stand)
 
 pub pour-count-spec : {M : Type 1} → statement M
 pour-count-spec =
