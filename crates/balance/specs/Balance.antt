@@ -13,8 +13,9 @@ use Rattle.refusals.specs.Answers.{pick, every}
 use Rattle.beam.specs.declared.Beam.{Beam}
 use Rattle.beam.specs.Validity.{inViewport}
 use Rattle.beam.specs.Settings.{withBits, setBits}
+use Rattle.pixel_refusals.specs.Tests.{endOfRow}
 use Rattle.pixels.specs.Marks.{Mark, ink, gap, place, laid, moved, colours}
-use Rattle.pixels.specs.Writes.{Told, endOfRow, rasterOf, drawRaster, rasterSurface, runsOf, drawRuns, runsSurface}
+use Rattle.pixels.specs.Writes.{WriteOutcome, rasterOf, drawRaster, rasterSurface, runsOf, drawRuns, runsSurface}
 
 -- ---- calls: RP, RL and RU, by the definitions that their promises name
 
@@ -28,28 +29,28 @@ pub record State : Type 0 where
   pub surface : List ℕ
 
 -- what RP and RL answer: 0 or the refusal's number, the number of pixels, and the record
-abbrev pub rasterTold : (w h : ℕ) → ℤ → List ℤ → State → Told
-rasterTold w h n chs st = drawRaster w h (st .beam) n chs (length (st .surface))
+abbrev pub rasterOutcome : (w h : ℕ) → ℤ → List ℤ → State → WriteOutcome
+rasterOutcome w h n chs st = drawRaster w h (st .beam) n chs (length (st .surface))
 
-abbrev pub runsTold : (w h : ℕ) → List ℤ → State → Told
-runsTold w h codes st = drawRuns w h (st .beam) codes (length (st .surface))
+abbrev pub runsOutcome : (w h : ℕ) → List ℤ → State → WriteOutcome
+runsOutcome w h codes st = drawRuns w h (st .beam) codes (length (st .surface))
 
 -- what a call leaves
 unfoldable pub after : (w h : ℕ) → Call → State → State
-after w h (raster n chs) st = record { beam = rasterTold w h n chs st .after; surface = rasterSurface w h (st .beam) n chs (st .surface) }
-after w h (runs codes) st = record { beam = runsTold w h codes st .after; surface = runsSurface w h (st .beam) codes (st .surface) }
+after w h (raster n chs) st = record { beam = rasterOutcome w h n chs st .after; surface = rasterSurface w h (st .beam) n chs (st .surface) }
+after w h (runs codes) st = record { beam = runsOutcome w h codes st .after; surface = runsSurface w h (st .beam) codes (st .surface) }
 after w h (bits first second third) st = record { beam = setBits w h (st .beam) first second third .after; surface = st .surface }
 
 -- the number of pixels that it returns
 unfoldable pub returned : (w h : ℕ) → Call → State → ℕ
-returned w h (raster n chs) st = rasterTold w h n chs st .count
-returned w h (runs codes) st = runsTold w h codes st .count
+returned w h (raster n chs) st = rasterOutcome w h n chs st .count
+returned w h (runs codes) st = runsOutcome w h codes st .count
 returned w h (bits first second third) st = 0
 
 -- the marks that it names: none where it is refused
 unfoldable pub named : (w h : ℕ) → Call → State → List Mark
-named w h (raster n chs) st = pick (eqb (rasterTold w h n chs st .number) 0) (rasterOf (st .beam) n chs) []
-named w h (runs codes) st = pick (eqb (runsTold w h codes st .number) 0) (runsOf (st .beam) codes) []
+named w h (raster n chs) st = pick (eqb (rasterOutcome w h n chs st .number) 0) (rasterOf (st .beam) n chs) []
+named w h (runs codes) st = pick (eqb (runsOutcome w h codes st .number) 0) (runsOf (st .beam) codes) []
 named w h (bits first second third) st = []
 
 -- calls one after another, each on what the last one left: the state in the end, and all marks that they name
@@ -85,9 +86,9 @@ abbrev pub track : (w h : ℕ) → Beam → ℕ → ℕ
 track w h beam k = place w h (steps k beam)
 
 -- whether i is one of the places f 0, f 1, .. f (n - 1)
-unfoldable pub reached : (f : ℕ → ℕ) → (n i : ℕ) → Bool
-reached f zero i = false
-reached f (suc n) i = eqb (f 0) i || reached (λ k. f (suc k)) n i
+unfoldable pub isReached : (f : ℕ → ℕ) → (n i : ℕ) → Bool
+isReached f zero i = false
+isReached f (suc n) i = eqb (f 0) i || isReached (λ k. f (suc k)) n i
 
 -- the bytes at the places where the test fails
 unfoldable pub elsewhere : (ℕ → Bool) → List ℕ → List ℕ
@@ -170,6 +171,6 @@ module _ (w h : ℕ) (st : State) (calls : List Call) where
     -- a write "returns its number of pixels": as many as the colours that it names, gaps aside, whatever state it meets
     pub numbers : (call : Call) (met : State) → returned w h call met ≡ length (colours (named w h call met))
     -- where the marks are all colours, "each colour's count follows from the list of colours named and the places not reached"
-    pub without-gaps : (cs : List ℕ) → ms ≡ inks cs → (c : ℕ) → count c (end .surface) ≡ count c (lastOf (min T A) cs) + count c (elsewhere (reached f T) (st .surface))
+    pub without-gaps : (cs : List ℕ) → ms ≡ inks cs → (c : ℕ) → count c (end .surface) ≡ count c (lastOf (min T A) cs) + count c (elsewhere (isReached f T) (st .surface))
     -- and they are where no call has a 96
     pub no-gaps : every noRowEnd calls ≡ true → ms ≡ inks (colours ms)

@@ -12,42 +12,33 @@ use Rattle.refusals.specs.Refusals.{numberOf}
 use Rattle.memory.specs.declared.Point.{Point}
 use Rattle.beam.specs.declared.Beam.{Beam}
 use Rattle.beam.specs.declared.Setting.{Setting}
-use Rattle.beam.specs.declared.Setting.the-variants.{Set, NotSet}
+use Rattle.beam.specs.declared.Setting.the-variants as settings
 use Rattle.beam.specs.Settings.{Settled, settingOf, setBits, setViewport, setBeam, makeStep}
 use Rattle.pixels.specs.declared.Drawing.{Drawing}
-use Rattle.pixels.specs.declared.Drawing.the-variants.{Drawn, NotDrawn}
-use Rattle.pixels.specs.Writes.{Told, drawingOf, drawRaster, rasterSurface, drawRuns, runsSurface}
+use Rattle.pixels.specs.declared.Drawing.the-variants as drawings
+use Rattle.pixels.specs.Writes.{WriteOutcome, drawingOf, drawRaster, rasterSurface, drawRuns, runsSurface}
 use Rattle.pixel_calls.specs.Fields.{beamIn, fieldsOf}
+use Rattle.pixel_calls.specs.Promises.{HandsSettled, HandsWritten}
 
-module _ (s : Setting) {d : Settled} (es : settingOf s ≡ d) where
-  pub set-number-so : {n : ℕ} → n ≡ settingOf s .number → n ≡ d .number
-  set-number-so e = e ∙ ap (λ (q : Settled). q .number) es
+pub settled-so : (s : Setting) {d : Settled} {n : ℕ} {l : List ℕ} → settingOf s ≡ d → n ≡ settingOf s .number → l ≡ fieldsOf (settingOf s .after) → HandsSettled d n l
+settled-so s es en el = rw (← es) (record { number = en; beam = el })
 
-  pub set-fields-so : {l : List ℕ} → l ≡ fieldsOf (settingOf s .after) → l ≡ fieldsOf (d .after)
-  set-fields-so e = e ∙ ap (λ (q : Settled). fieldsOf (q .after)) es
-
-module _ (s : Drawing) {d : Told} (es : drawingOf s ≡ d) where
-  pub drawn-number-so : {n : ℕ} → n ≡ drawingOf s .number → n ≡ d .number
-  drawn-number-so e = e ∙ ap (λ (q : Told). q .number) es
-
-  pub drawn-count-so : {n : ℕ} → n ≡ drawingOf s .count → n ≡ d .count
-  drawn-count-so e = e ∙ ap (λ (q : Told). q .count) es
-
-  pub drawn-fields-so : {l : List ℕ} → l ≡ fieldsOf (drawingOf s .after) → l ≡ fieldsOf (d .after)
-  drawn-fields-so e = e ∙ ap (λ (q : Told). fieldsOf (q .after)) es
+pub written-so : (s : Drawing) {d : WriteOutcome} {n k : ℕ} {l t u : List ℕ} → drawingOf s ≡ d → n ≡ drawingOf s .number → k ≡ drawingOf s .count
+    → l ≡ fieldsOf (drawingOf s .after) → u ≡ t → HandsWritten d t n k l u
+written-so s es en ek el eu = rw (← es) (record { number = en; pixels = ek; beam = el; bytes = eu })
 
 -- ---- by the answer's case
 
 module _ {s : Setting} {b : Beam} where
-  pub set-number : s ≡ Set b → 0 ≡ settingOf s .number
+  pub set-number : s ≡ settings.Set b → 0 ≡ settingOf s .number
   unfolding settingOf
   set-number e = rw e
 
-  pub set-fields : s ≡ Set b → {l : List ℕ} → l ≡ fieldsOf b → l ≡ fieldsOf (settingOf s .after)
+  pub set-fields : s ≡ settings.Set b → {l : List ℕ} → l ≡ fieldsOf b → l ≡ fieldsOf (settingOf s .after)
   unfolding settingOf
   set-fields e j = rw e j
 
-  module _ {f : Refusal} (e : s ≡ NotSet f b) where
+  module _ {f : Refusal} (e : s ≡ settings.Refused f b) where
     pub not-set-number : {n : ℕ} → n ≡ numberOf f → n ≡ settingOf s .number
     unfolding settingOf
     not-set-number j = rw e j
@@ -57,7 +48,7 @@ module _ {s : Setting} {b : Beam} where
     not-set-fields j = rw e j
 
 module _ {s : Drawing} {b : Beam} where
-  module _ {k : ℕ} (e : s ≡ Drawn k b) where
+  module _ {k : ℕ} (e : s ≡ drawings.Drawn k b) where
     pub drawn-number : 0 ≡ drawingOf s .number
     unfolding drawingOf
     drawn-number = rw e
@@ -70,7 +61,7 @@ module _ {s : Drawing} {b : Beam} where
     unfolding drawingOf
     drawn-fields j = rw e j
 
-  module _ {f : Refusal} (e : s ≡ NotDrawn f b) where
+  module _ {f : Refusal} (e : s ≡ drawings.Refused f b) where
     pub not-drawn-number : {n : ℕ} → n ≡ numberOf f → n ≡ drawingOf s .number
     unfolding drawingOf
     not-drawn-number j = rw e j
@@ -100,16 +91,14 @@ module _ (w h : ℕ) (l : List ℕ) {b : Beam} (eb : b ≡ beamIn l) {q : Settle
   step-given e = e ∙ rw eb
 
 module _ (w h : ℕ) (l : List ℕ) {b : Beam} (eb : b ≡ beamIn l) where
-  pub raster-given : (n : ℤ) → SFits w32 n → (chs : List ℤ) (size : ℕ) {q : Told} → q ≡ drawRaster w h b (toZ w32 (ofZ w32 n)) chs size → q ≡ drawRaster w h (beamIn l) n chs size
+  pub raster-given : (n : ℤ) → SFits w32 n → (chs : List ℤ) (size : ℕ) {q : WriteOutcome} → q ≡ drawRaster w h b (toZ w32 (ofZ w32 n)) chs size → q ≡ drawRaster w h (beamIn l) n chs size
   raster-given n f chs size e = e ∙ rw (eb, toZ-ofZ f)
 
   pub raster-laid : (n : ℤ) → SFits w32 n → (chs : List ℤ) (s : List ℕ) {o : List ℕ} → o ≡ rasterSurface w h b (toZ w32 (ofZ w32 n)) chs s → o ≡ rasterSurface w h (beamIn l) n chs s
   raster-laid n f chs s e = e ∙ rw (eb, toZ-ofZ f)
 
-  pub runs-given : (codes : List ℤ) (size : ℕ) {q : Told} → q ≡ drawRuns w h b codes size → q ≡ drawRuns w h (beamIn l) codes size
+  pub runs-given : (codes : List ℤ) (size : ℕ) {q : WriteOutcome} → q ≡ drawRuns w h b codes size → q ≡ drawRuns w h (beamIn l) codes size
   runs-given codes size e = e ∙ rw eb
 
   pub runs-laid : (codes : List ℤ) (s : List ℕ) {o : List ℕ} → o ≡ runsSurface w h b codes s → o ≡ runsSurface w h (beamIn l) codes s
   runs-laid codes s e = e ∙ rw eb
-
-pub ruleset set = (set-number-so, set-fields-so)

@@ -5,6 +5,7 @@ ghost use Rattle.coordinates.specs.Coordinates.{pointOf};
 ghost use Rattle.beam.specs.Settings.{settingOf, makeFresh, setBits, setViewport, setBeam, makeStep};
 ghost use Rattle.pixels.specs.Writes.{drawingOf, drawRaster, rasterSurface, drawRuns, runsSurface};
 ghost use Rattle.pixel_calls.specs.Fields.{beamIn, fieldsOf};
+ghost use Rattle.pixel_calls.specs.Promises.{HandsSettled, HandsWritten};
 use beam::Beam;
 use beam::Setting;
 use pixels::Drawing;
@@ -53,7 +54,7 @@ fn set_number(setting: Setting) -> u8
 {
     match setting {
         Setting::Set(_) => 0,
-        Setting::NotSet(e, _) => refusals::number(e),
+        Setting::Refused(e, _) => refusals::number(e),
     }
 }
 
@@ -62,14 +63,13 @@ fn set_fields(setting: Setting) -> [usize; 7]
 {
     match setting {
         Setting::Set(beam) => fields_of(beam),
-        Setting::NotSet(_, beam) => fields_of(beam),
+        Setting::Refused(_, beam) => fields_of(beam),
     }
 }
 
 #[no_mangle]
 pub extern "C" fn ardh_fresh(w: usize, h: usize, fields: &mut [usize; 7]) -> u8
-    ensures { λ r. ⌜ r ≡ makeFresh w h .number ⌝ }
-    ensures { λ _. ⌜ now (fields .exit) ≡ fieldsOf (makeFresh w h .after) ⌝ }
+    ensures { λ r. ⌜ HandsSettled (makeFresh w h) r (now (fields .exit)) ⌝ }
 {
     let setting = beam::fresh(w, h);
     *fields = set_fields(setting);
@@ -86,8 +86,7 @@ pub extern "C" fn ardh_set_bits(
     second: i32,
     third: i32,
 ) -> u8
-    ensures { λ r. ⌜ r ≡ setBits w h (beamIn (now (fields .entry))) first second third .number ⌝ }
-    ensures { λ _. ⌜ now (fields .exit) ≡ fieldsOf (setBits w h (beamIn (now (fields .entry))) first second third .after) ⌝ }
+    ensures { λ r. ⌜ HandsSettled (setBits w h (beamIn (now (fields .entry))) first second third) r (now (fields .exit)) ⌝ }
 {
     let setting = beam::set_bits(w, h, beam_in(fields), first, second, third);
     *fields = set_fields(setting);
@@ -105,8 +104,7 @@ pub extern "C" fn ardh_set_viewport(
     x2: i32,
     y2: i32,
 ) -> u8
-    ensures { λ r. ⌜ r ≡ setViewport w h (beamIn (now (fields .entry))) (pointOf x y) (pointOf x2 y2) .number ⌝ }
-    ensures { λ _. ⌜ now (fields .exit) ≡ fieldsOf (setViewport w h (beamIn (now (fields .entry))) (pointOf x y) (pointOf x2 y2) .after) ⌝ }
+    ensures { λ r. ⌜ HandsSettled (setViewport w h (beamIn (now (fields .entry))) (pointOf x y) (pointOf x2 y2)) r (now (fields .exit)) ⌝ }
 {
     let from = coordinates::point_of(x, y);
     let to = coordinates::point_of(x2, y2);
@@ -118,8 +116,7 @@ pub extern "C" fn ardh_set_viewport(
 // RH
 #[no_mangle]
 pub extern "C" fn ardh_set_beam(w: usize, h: usize, fields: &mut [usize; 7], x: i32, y: i32) -> u8
-    ensures { λ r. ⌜ r ≡ setBeam w h (beamIn (now (fields .entry))) (pointOf x y) .number ⌝ }
-    ensures { λ _. ⌜ now (fields .exit) ≡ fieldsOf (setBeam w h (beamIn (now (fields .entry))) (pointOf x y) .after) ⌝ }
+    ensures { λ r. ⌜ HandsSettled (setBeam w h (beamIn (now (fields .entry))) (pointOf x y)) r (now (fields .exit)) ⌝ }
 {
     let to = coordinates::point_of(x, y);
     let setting = beam::set_beam(w, h, beam_in(fields), to);
@@ -130,8 +127,7 @@ pub extern "C" fn ardh_set_beam(w: usize, h: usize, fields: &mut [usize; 7], x: 
 // One step of the beam.
 #[no_mangle]
 pub extern "C" fn ardh_step(w: usize, h: usize, fields: &mut [usize; 7]) -> u8
-    ensures { λ r. ⌜ r ≡ makeStep w h (beamIn (now (fields .entry))) .number ⌝ }
-    ensures { λ _. ⌜ now (fields .exit) ≡ fieldsOf (makeStep w h (beamIn (now (fields .entry))) .after) ⌝ }
+    ensures { λ r. ⌜ HandsSettled (makeStep w h (beamIn (now (fields .entry)))) r (now (fields .exit)) ⌝ }
 {
     let setting = beam::step_on(w, h, beam_in(fields));
     *fields = set_fields(setting);
@@ -145,7 +141,7 @@ fn drawn_number(drawing: Drawing) -> u8
 {
     match drawing {
         Drawing::Drawn(_, _) => 0,
-        Drawing::NotDrawn(e, _) => refusals::number(e),
+        Drawing::Refused(e, _) => refusals::number(e),
     }
 }
 
@@ -154,7 +150,7 @@ fn drawn_count(drawing: Drawing) -> usize
 {
     match drawing {
         Drawing::Drawn(n, _) => n,
-        Drawing::NotDrawn(_, _) => 0,
+        Drawing::Refused(_, _) => 0,
     }
 }
 
@@ -163,7 +159,7 @@ fn drawn_fields(drawing: Drawing) -> [usize; 7]
 {
     match drawing {
         Drawing::Drawn(_, beam) => fields_of(beam),
-        Drawing::NotDrawn(_, beam) => fields_of(beam),
+        Drawing::Refused(_, beam) => fields_of(beam),
     }
 }
 
@@ -178,10 +174,7 @@ pub extern "C" fn ardh_draw_raster(
     characters: &[i32],
     count: &mut usize,
 ) -> u8
-    ensures { λ r. ⌜ r ≡ drawRaster w h (beamIn (now (fields .entry))) n (now (characters .entry)) (length (now (surface .entry))) .number ⌝ }
-    ensures { λ _. ⌜ now (count .exit) ≡ drawRaster w h (beamIn (now (fields .entry))) n (now (characters .entry)) (length (now (surface .entry))) .count ⌝ }
-    ensures { λ _. ⌜ now (fields .exit) ≡ fieldsOf (drawRaster w h (beamIn (now (fields .entry))) n (now (characters .entry)) (length (now (surface .entry))) .after) ⌝ }
-    ensures { λ _. ⌜ now (surface .exit) ≡ rasterSurface w h (beamIn (now (fields .entry))) n (now (characters .entry)) (now (surface .entry)) ⌝ }
+    ensures { λ r. ⌜ HandsWritten (drawRaster w h (beamIn (now (fields .entry))) n (now (characters .entry)) (length (now (surface .entry)))) (rasterSurface w h (beamIn (now (fields .entry))) n (now (characters .entry)) (now (surface .entry))) r (now (count .exit)) (now (fields .exit)) (now (surface .exit)) ⌝ }
 {
     let drawing = pixels::draw_raster(surface, w, h, beam_in(fields), n, characters);
     *fields = drawn_fields(drawing);
@@ -199,10 +192,7 @@ pub extern "C" fn ardh_draw_runs(
     codes: &[i32],
     count: &mut usize,
 ) -> u8
-    ensures { λ r. ⌜ r ≡ drawRuns w h (beamIn (now (fields .entry))) (now (codes .entry)) (length (now (surface .entry))) .number ⌝ }
-    ensures { λ _. ⌜ now (count .exit) ≡ drawRuns w h (beamIn (now (fields .entry))) (now (codes .entry)) (length (now (surface .entry))) .count ⌝ }
-    ensures { λ _. ⌜ now (fields .exit) ≡ fieldsOf (drawRuns w h (beamIn (now (fields .entry))) (now (codes .entry)) (length (now (surface .entry))) .after) ⌝ }
-    ensures { λ _. ⌜ now (surface .exit) ≡ runsSurface w h (beamIn (now (fields .entry))) (now (codes .entry)) (now (surface .entry)) ⌝ }
+    ensures { λ r. ⌜ HandsWritten (drawRuns w h (beamIn (now (fields .entry))) (now (codes .entry)) (length (now (surface .entry)))) (runsSurface w h (beamIn (now (fields .entry))) (now (codes .entry)) (now (surface .entry))) r (now (count .exit)) (now (fields .exit)) (now (surface .exit)) ⌝ }
 {
     let drawing = pixels::draw_runs(surface, w, h, beam_in(fields), codes);
     *fields = drawn_fields(drawing);

@@ -1,4 +1,4 @@
-use Rattle.pixel_calls.proofs.Answers.{drawn-number-so, drawn-count-so, drawn-fields-so, raster-given, raster-laid}
+use Rattle.pixel_calls.proofs.Answers.{written-so, raster-given, raster-laid}
 use borrow.Author.Needs.{needs}
 use Rattle.pixel_calls.proofs.ardh_draw_raster.Statement.{statement}
 use Rattle.pixel_calls.proofs.ardh_draw_raster.Tie as tie
@@ -22,7 +22,7 @@ same-length : tie.Need-same-length
 same-length c = search needs
 
 returns : tie.Need-returns
-returns c = (search (needs, drawn-number-so, raster-given), (search (needs, drawn-count-so, raster-given), (search (needs, drawn-fields-so, raster-given), search (needs, raster-laid))))
+returns c = search (needs, written-so, raster-given, raster-laid)
 
 pub ardh-draw-raster-spec : {M : Type 1} → statement M
 ardh-draw-raster-spec =

@@ -1,4 +1,4 @@
-use Rattle.pixel_calls.proofs.Answers.{drawn-number-so, drawn-count-so, drawn-fields-so, runs-given, runs-laid}
+use Rattle.pixel_calls.proofs.Answers.{written-so, runs-given, runs-laid}
 use borrow.Author.Needs.{needs}
 use Rattle.pixel_calls.proofs.ardh_draw_runs.Statement.{statement}
 use Rattle.pixel_calls.proofs.ardh_draw_runs.Tie as tie
@@ -22,7 +22,7 @@ same-length : tie.Need-same-length
 same-length c = search needs
 
 returns : tie.Need-returns
-returns c = (search (needs, drawn-number-so, runs-given), (search (needs, drawn-count-so, runs-given), (search (needs, drawn-fields-so, runs-given), search (needs, runs-laid))))
+returns c = search (needs, written-so, runs-given, runs-laid)
 
 pub ardh-draw-runs-spec : {M : Type 1} → statement M
 ardh-draw-runs-spec =

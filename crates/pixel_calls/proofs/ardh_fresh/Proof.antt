@@ -1,4 +1,4 @@
-use Rattle.pixel_calls.proofs.Answers.{set}
+use Rattle.pixel_calls.proofs.Answers.{settled-so}
 use borrow.Author.Needs.{needs}
 use Rattle.pixel_calls.proofs.ardh_fresh.Statement.{statement}
 use Rattle.pixel_calls.proofs.ardh_fresh.Tie as tie
@@ -13,7 +13,7 @@ set-number-requires : tie.Need-set-number-requires
 set-number-requires c κs = search needs
 
 returns : tie.Need-returns
-returns c = search (needs, set)
+returns c = search (needs, settled-so)
 
 pub ardh-fresh-spec : {M : Type 1} → statement M
 ardh-fresh-spec =

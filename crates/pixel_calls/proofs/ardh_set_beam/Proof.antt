@@ -1,5 +1,5 @@
 use Rattle.coordinates.proofs.Sides.{point-given}
-use Rattle.pixel_calls.proofs.Answers.{set, beam-given}
+use Rattle.pixel_calls.proofs.Answers.{settled-so, beam-given}
 use borrow.Author.Needs.{needs}
 use Rattle.pixel_calls.proofs.ardh_set_beam.Statement.{statement}
 use Rattle.pixel_calls.proofs.ardh_set_beam.Tie as tie
@@ -20,7 +20,7 @@ set-number-requires : tie.Need-set-number-requires
 set-number-requires c κs = search needs
 
 returns : tie.Need-returns
-returns c = search (needs, set, beam-given, point-given)
+returns c = search (needs, settled-so, beam-given, point-given)
 
 pub ardh-set-beam-spec : {M : Type 1} → statement M
 ardh-set-beam-spec =

@@ -1,4 +1,4 @@
-use Rattle.pixel_calls.proofs.Answers.{set, bits-given}
+use Rattle.pixel_calls.proofs.Answers.{settled-so, bits-given}
 use borrow.Author.Needs.{needs}
 use Rattle.pixel_calls.proofs.ardh_set_bits.Statement.{statement}
 use Rattle.pixel_calls.proofs.ardh_set_bits.Tie as tie
@@ -16,7 +16,7 @@ set-number-requires : tie.Need-set-number-requires
 set-number-requires c κs = search needs
 
 returns : tie.Need-returns
-returns c = search (needs, set, bits-given)
+returns c = search (needs, settled-so, bits-given)
 
 pub ardh-set-bits-spec : {M : Type 1} → statement M
 ardh-set-bits-spec =

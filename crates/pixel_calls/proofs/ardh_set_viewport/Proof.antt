@@ -1,5 +1,5 @@
 use Rattle.coordinates.proofs.Sides.{point-given}
-use Rattle.pixel_calls.proofs.Answers.{set, viewport-given}
+use Rattle.pixel_calls.proofs.Answers.{settled-so, viewport-given}
 use borrow.Author.Needs.{needs}
 use Rattle.pixel_calls.proofs.ardh_set_viewport.Statement.{statement}
 use Rattle.pixel_calls.proofs.ardh_set_viewport.Tie as tie
@@ -23,7 +23,7 @@ set-number-requires : tie.Need-set-number-requires
 set-number-requires c κs = search needs
 
 returns : tie.Need-returns
-returns c = search (needs, set, viewport-given, point-given)
+returns c = search (needs, settled-so, viewport-given, point-given)
 
 pub ardh-set-viewport-spec : {M : Type 1} → statement M
 ardh-set-viewport-spec =

@@ -1,4 +1,4 @@
-use Rattle.pixel_calls.proofs.Answers.{set, step-given}
+use Rattle.pixel_calls.proofs.Answers.{settled-so, step-given}
 use borrow.Author.Needs.{needs}
 use Rattle.pixel_calls.proofs.ardh_step.Statement.{statement}
 use Rattle.pixel_calls.proofs.ardh_step.Tie as tie
@@ -16,7 +16,7 @@ set-number-requires : tie.Need-set-number-requires
 set-number-requires c κs = search needs
 
 returns : tie.Need-returns
-returns c = search (needs, set, step-given)
+returns c = search (needs, settled-so, step-given)
 
 pub ardh-step-spec : {M : Type 1} → statement M
 ardh-step-spec =

@@ -64,7 +64,7 @@ loop-again c =
     let m = c .before .before .lay-run .ensures in
     let xs = run (bitAnd k (1 * 2 ^ b % 2 ^ 64 - 1)) (k / 2 ^ b) in
     let d : runMarks b (drop i l) ≡ xs ++ runMarks b (drop (i + 1) l) = rw (masked b k (start .pre .1), e) (runs-more b l i il) in
-    (omega arith, going-on (at-loop .loop .inv .1) xs (runMarks b (drop (i + 1) l)) d (m .0) (m .1))
+    (omega arith, going-on (at-loop .loop .inv .1) xs (runMarks b (drop (i + 1) l)) d m)
 
 same-length : tie.Need-same-length Inv-loop μ-loop
 same-length c = c .before .loop .inv .1 .long

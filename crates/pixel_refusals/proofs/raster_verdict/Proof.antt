@@ -1,7 +1,7 @@
-use Rattle.pixels.proofs.Looking.{bits-some, bits-six, raster-first, raster-numbers, raster-wrong, raster-allowed}
+use Rattle.pixel_refusals.proofs.Looking.{bits-some, bits-six, raster-first, raster-numbers, raster-wrong, raster-allowed}
 use borrow.Author.Needs.{needs}
-use Rattle.pixels.proofs.raster_verdict.Statement.{statement}
-use Rattle.pixels.proofs.raster_verdict.Tie as tie
+use Rattle.pixel_refusals.proofs.raster_verdict.Statement.{statement}
+use Rattle.pixel_refusals.proofs.raster_verdict.Tie as tie
 
 write-verdict-requires : tie.Need-write-verdict-requires
 write-verdict-requires c κs = search needs

@@ -1,7 +1,7 @@
-use Rattle.pixels.proofs.Looking.{too-many-characters, numbers-tested}
+use Rattle.pixel_refusals.proofs.Looking.{too-many-characters, numbers-tested}
 use borrow.Author.Needs.{needs}
-use Rattle.pixels.proofs.are_raster_numbers.Statement.{statement}
-use Rattle.pixels.proofs.are_raster_numbers.Tie as tie
+use Rattle.pixel_refusals.proofs.are_raster_numbers.Statement.{statement}
+use Rattle.pixel_refusals.proofs.are_raster_numbers.Tie as tie
 
 returns : tie.Need-returns
 returns c = search (needs, too-many-characters)

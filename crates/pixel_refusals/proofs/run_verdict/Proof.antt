@@ -1,7 +1,7 @@
-use Rattle.pixels.proofs.Looking.{runs-first, runs-wrong, runs-allowed}
+use Rattle.pixel_refusals.proofs.Looking.{runs-first, runs-wrong, runs-allowed}
 use borrow.Author.Needs.{needs}
-use Rattle.pixels.proofs.run_verdict.Statement.{statement}
-use Rattle.pixels.proofs.run_verdict.Tie as tie
+use Rattle.pixel_refusals.proofs.run_verdict.Statement.{statement}
+use Rattle.pixel_refusals.proofs.run_verdict.Tie as tie
 
 write-verdict-requires : tie.Need-write-verdict-requires
 write-verdict-requires c κs = search needs

@@ -1,7 +1,7 @@
-use Rattle.pixels.proofs.Looking.{no-surface, not-valid, no-bits, may-write}
+use Rattle.pixel_refusals.proofs.Looking.{no-surface, not-valid, no-bits, may-write}
 use borrow.Author.Needs.{needs}
-use Rattle.pixels.proofs.write_verdict.Statement.{statement}
-use Rattle.pixels.proofs.write_verdict.Tie as tie
+use Rattle.pixel_refusals.proofs.write_verdict.Statement.{statement}
+use Rattle.pixel_refusals.proofs.write_verdict.Tie as tie
 
 is-surface-requires : tie.Need-is-surface-requires
 is-surface-requires c κs = search needs

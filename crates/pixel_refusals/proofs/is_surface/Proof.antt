@@ -1,8 +1,8 @@
 use native.Mathlib.Omega.{arith}
-use Rattle.pixels.proofs.Looking.{small-area, sized, not-sized}
+use Rattle.pixel_refusals.proofs.Looking.{small-area, sized, not-sized}
 use borrow.Author.Needs.{needs}
-use Rattle.pixels.proofs.is_surface.Statement.{statement}
-use Rattle.pixels.proofs.is_surface.Tie as tie
+use Rattle.pixel_refusals.proofs.is_surface.Statement.{statement}
+use Rattle.pixel_refusals.proofs.is_surface.Tie as tie
 
 is-size-requires : tie.Need-is-size-requires
 is-size-requires c κs = search needs

@@ -1,9 +1,9 @@
 use native.Mathlib.Nat.{div-le-self}
 use native.Mathlib.Omega.{arith}
-use Rattle.pixels.proofs.Looking.{some-per-character, characters-tested, wrong-count}
+use Rattle.pixel_refusals.proofs.Looking.{some-per-character, characters-tested, wrong-count}
 use borrow.Author.Needs.{needs}
-use Rattle.pixels.proofs.are_raster_characters.Statement.{statement}
-use Rattle.pixels.proofs.are_raster_characters.Tie as tie
+use Rattle.pixel_refusals.proofs.are_raster_characters.Statement.{statement}
+use Rattle.pixel_refusals.proofs.are_raster_characters.Tie as tie
 
 div-per : tie.Need-div-per
 div-per c = search needs

@@ -1,14 +1,14 @@
 -- The tests of a write in their order, by what their parts gave, and what holds once they have passed.
-use Prim.Native.Nat.{ℕ, zero, suc, _+_, _-_, _*_, _/_, _≤_, _<_, min}
+use Prim.Native.Nat.{ℕ, _+_, _-_, _*_, _/_, _≤_, _<_}
 use mathlib.Core.Path.{_≡_, refl, sym, _∙_, ap}
 use mathlib.Core.Bool.{Bool, true, false, not, _&&_, _||_}
-use mathlib.Core.List.{List, [], _∷_, map}
-use native.Mathlib.Nat.{le-of-suc-le-suc, not-suc-le-zero, pos-of-ne-zero, le-div-iff-mul-le, one-mul}
+use mathlib.Core.List.{List, map}
+use native.Mathlib.Nat.{pos-of-ne-zero, le-div-iff-mul-le, one-mul, mul-le-mul}
 use native.Mathlib.Omega.{arith}
 use borrow.Author.Tests.{eq-eqb, ne-eqb, le-leb, lt-leb, leb-true, eqb-true, eqb-false, not-true, not-false}
 use lib.Dec.{leb, eqb}
-use lib.ListN.{length, getD, List·getD-map}
-use lib.IntN.{ℤ, pos, natAbs}
+use lib.ListN.{length}
+use lib.IntN.{ℤ, natAbs}
 use mir.Syntax.{w32}
 use mir.Val.{SFits, toZ, ofZ}
 use mir.Facts.{toZ-ofZ}
@@ -16,48 +16,23 @@ use Rattle.refusals.specs.declared.Refusal.{Refusal}
 use Rattle.refusals.specs.declared.Refusal.the-variants.{NotValid, BitsNotSet, RasterCharacters, SurfaceSize}
 use Rattle.refusals.specs.Refusals.{numberOf}
 use Rattle.refusals.specs.Answers.{demand, every}
-use Rattle.refusals.proofs.Cases.{and-left, and-right}
+use Rattle.refusals.proofs.Cases.{and-left, and-right, bool-apart}
 use Rattle.refusals.proofs.Numbers.{not-nought, met}
+use Rattle.numbers.specs.Counts.{mostEntries}
 use Rattle.ranges.specs.Ranges.{within}
-use Rattle.ranges.proofs.Entries.{within-range}
 use Rattle.beam.specs.declared.Beam.{Beam}
 use Rattle.beam.specs.Validity.{isSize, isBits, onSurface, inViewport, isValid}
 use Rattle.beam.proofs.Settling.{no-of, yes-of}
-use Rattle.pixels.specs.declared.Verdict.{Verdict}
-use Rattle.pixels.specs.declared.Verdict.the-variants.{Allowed, Refused}
-use Rattle.pixels.specs.Writes.{perCharacter, endOfRow, leftAfter, pixelCharacters, isSurface, isNumber, isRaster, mostEntries, needed, rasterNumbers, rasterCharacters, runNumbers, writeRefusal, rasterRefusal, runRefusal, verdictOf}
-use Rattle.pixels.specs.Standing.{Ready}
-use Rattle.pixels.proofs.Laying.{ready-of, area-le}
-
--- ---- entries and numbers
-
-pub entry-at : (l : List ℤ) (i : ℕ) {m : ℕ} → SFits w32 (getD l i (pos 0)) → m ≡ natAbs (toZ w32 (ofZ w32 (getD l i (pos 0)))) → m ≡ getD (map natAbs l) i 0
-entry-at l i f e = (rw (toZ-ofZ f) at e) ∙ sym (List·getD-map natAbs l i (pos 0))
-
-pub left-so : (beam : Beam) (n ch : ℕ) {m : ℕ} → (ch ≡ endOfRow → ⊥) → m ≡ min n (6 / beam .bits) → n - m ≡ leftAfter beam n ch
-unfolding leftAfter
-left-so beam n ch o e = rw (ne-eqb ch endOfRow o) (omega (arith, e))
-
-pub left-same : (beam : Beam) (n ch : ℕ) → ch ≡ endOfRow → n ≡ leftAfter beam n ch
-unfolding leftAfter
-left-same beam n ch e = rw (eq-eqb ch endOfRow e)
-
--- what passes for each passes for the one at i
-pub every-at : {A : Type 0} (ok : A → Bool) (l : List A) (d : A) (i : ℕ) → every ok l ≡ true → i < length l → ok (getD l i d) ≡ true
-unfolding every
-every-at ok [] d i e h = absurd (not-suc-le-zero h)
-every-at ok (x ∷ xs) d zero e h = and-left (ok x) (every ok xs) e
-every-at ok (x ∷ xs) d (suc i) e h = every-at ok xs d i (and-right (ok x) (every ok xs) e) (le-of-suc-le-suc h)
-
--- an entry of a list that is all within a range
-pub entry-within : (least most : ℕ) (l : List ℤ) (i : ℕ) → every (within least most) l ≡ true → i < length l → (least ≤ getD (map natAbs l) i 0) × (getD (map natAbs l) i 0 ≤ most)
-entry-within least most l i e h =
-    let r = within-range least most (getD l i (pos 0)) (every-at (within least most) l (pos 0) i e h) in
-    rw (List·getD-map natAbs l i (pos 0)) (r .0, r .1 .0)
+use Rattle.pixel_refusals.specs.declared.Verdict.{Verdict}
+use Rattle.pixel_refusals.specs.declared.Verdict.the-variants.{Allowed, Refused}
+use Rattle.pixel_refusals.specs.Tests.{isSurface, isPixelNumber, isRaster, needed, pixelCharacters, rasterNumbers, rasterCharacters, runNumbers, writeRefusal, rasterRefusal, runRefusal, verdictOf}
 
 -- ---- the surface's size
 
-size-of : (w h : ℕ) → isSize w h ≡ true → (w ≤ 512) × (h ≤ 512)
+pub area-le : {w h : ℕ} → w ≤ 512 → h ≤ 512 → h * w ≤ 262144
+area-le {w} {h} hw hh = mul-le-mul {n₁ = h} {m₁ = w} {n₂ = 512} {m₂ = 512} hh hw
+
+pub size-of : (w h : ℕ) → isSize w h ≡ true → (w ≤ 512) × (h ≤ 512)
 unfolding isSize
 size-of w h n =
     let n₁ = and-right (leb 1 w) (leb w 512 && (leb 1 h && leb h 512)) n in
@@ -131,11 +106,11 @@ module _ (list : List ℤ) where
 
   pub few-codes : runNumbers list ≡ true → length list ≤ mostEntries
   unfolding runNumbers
-  few-codes e = leb-true (length list) mostEntries (and-left (leb (length list) mostEntries) (every isNumber list) e)
+  few-codes e = leb-true (length list) mostEntries (and-left (leb (length list) mostEntries) (every isPixelNumber list) e)
 
-  pub codes-within : runNumbers list ≡ true → every isNumber list ≡ true
+  pub codes-within : runNumbers list ≡ true → every isPixelNumber list ≡ true
   unfolding runNumbers
-  codes-within e = and-right (leb (length list) mostEntries) (every isNumber list) e
+  codes-within e = and-right (leb (length list) mostEntries) (every isPixelNumber list) e
 
 -- ---- 11, 8, 9
 
@@ -165,7 +140,8 @@ module _ (w h size : ℕ) (beam : Beam) where
   pub record Passed : Type 0 where
     pub surface : isSurface w h size ≡ true
     pub valid : isValid w h beam ≡ true
-    pub bits : beam .bits ≡ 0 → ⊥
+    pub some : 0 < beam .bits
+    pub six : beam .bits ≤ 6
 
   pub passed-of : (next : ℕ) → writeRefusal w h size beam next ≡ 0 → Passed × (next ≡ 0)
   unfolding writeRefusal
@@ -173,14 +149,12 @@ module _ (w h size : ℕ) (beam : Beam) where
       let a = met (isSurface w h size) 11 _ (λ q. omega arith) e in
       let b = met (isValid w h beam) 8 _ (λ q. omega arith) (a .1) in
       let c = met (not (eqb (beam .bits) 0)) 9 next (λ q. omega arith) (b .1) in
-      (record { surface = a .0; valid = b .0; bits = λ q. apart (rw (eq-eqb (beam .bits) 0 q) at (c .0)) }, c .1)
-    where
-      apart : false ≡ true → ⊥
-      apart q = let z : _≡_ {A = ℕ} 0 1 = cc in omega arith
+      let set : beam .bits ≡ 0 → ⊥ = λ q. bool-apart (rw (eq-eqb (beam .bits) 0 q) at (c .0)) in
+      (record { surface = a .0; valid = b .0; some = pos-of-ne-zero set; six = valid-bits w h beam (b .0) }, c .1)
 
   pub goes-on : Passed → (next : ℕ) → writeRefusal w h size beam next ≡ next
   unfolding writeRefusal
-  goes-on p next = rw (p .surface, p .valid, ne-eqb (beam .bits) 0 (p .bits))
+  goes-on p next = rw (p .surface, p .valid, ne-eqb (beam .bits) 0 (λ q. omega arith))
 
   pub stands : (k next : ℕ) → eqb k 0 ≡ false → writeRefusal w h size beam 0 ≡ k → writeRefusal w h size beam next ≡ k
   unfolding writeRefusal
@@ -202,10 +176,10 @@ module _ (w h size : ℕ) (beam : Beam) where
     none g = passed-of 0 (sym ev ∙ rw g) .0
 
     pub bits-some : v ≡ Allowed → 0 < beam .bits
-    bits-some g = pos-of-ne-zero (none g .bits)
+    bits-some g = none g .some
 
     pub bits-six : v ≡ Allowed → beam .bits ≤ 6
-    bits-six g = valid-bits w h beam (none g .valid)
+    bits-six g = none g .six
 
     -- N comes back from the callees' contracts as the machine reads it
     module _ (n : ℤ) (list : List ℤ) where
@@ -246,3 +220,48 @@ module _ (w h size : ℕ) (beam : Beam) where
         pub runs-allowed : a ≡ true → verdictOf Allowed ≡ runRefusal w h size beam list
         unfolding verdictOf runRefusal
         runs-allowed t = rw (goes-on (none g) _, sym ea ∙ t)
+
+-- ---- what an allowed write has passed
+
+-- what a verdict tells of the refusal
+pub refusal-of : {v : Verdict} {f : ℕ} (e : Refusal) → verdictOf v ≡ f → v ≡ Refused e → numberOf e ≡ f
+unfolding verdictOf
+refusal-of e ev g = sym (rw g) ∙ ev
+
+pub none-of : {v : Verdict} {f : ℕ} → verdictOf v ≡ f → v ≡ Allowed → f ≡ 0
+unfolding verdictOf
+none-of ev g = sym ev ∙ rw g
+
+module _ (w h size : ℕ) (beam : Beam) (n : ℤ) (list : List ℤ) (z : rasterRefusal w h size beam n list ≡ 0) where
+  raster-tests : Passed w h size beam × (demand (rasterNumbers n list) 8 (demand (rasterCharacters (beam .bits) n list) 10 0) ≡ 0)
+  unfolding rasterRefusal
+  raster-tests = passed-of w h size beam _ z
+
+  pub raster-passed : Passed w h size beam
+  raster-passed = raster-tests .0
+
+  raster-spelt : rasterCharacters (beam .bits) n list ≡ true
+  raster-spelt =
+      met (rasterCharacters (beam .bits) n list) 10 0 (λ q. omega arith) (met (rasterNumbers n list) 8 (demand (rasterCharacters (beam .bits) n list) 10 0) (λ q. omega arith) (raster-tests .1) .1) .0
+
+  pub raster-enough : pixelCharacters (map natAbs list) ≡ needed (beam .bits) (natAbs n)
+  unfolding rasterCharacters
+  raster-enough =
+      let c : ℕ = pixelCharacters (map natAbs list) in
+      let k : ℕ = needed (beam .bits) (natAbs n) in
+      eqb-true c k (and-left (eqb c k) (every isRaster list) raster-spelt)
+
+  pub raster-within : every isRaster list ≡ true
+  unfolding rasterCharacters
+  raster-within = and-right (eqb (pixelCharacters (map natAbs list)) (needed (beam .bits) (natAbs n))) (every isRaster list) raster-spelt
+
+module _ (w h size : ℕ) (beam : Beam) (list : List ℤ) (z : runRefusal w h size beam list ≡ 0) where
+  run-tests : Passed w h size beam × (demand (runNumbers list) 8 0 ≡ 0)
+  unfolding runRefusal
+  run-tests = passed-of w h size beam _ z
+
+  pub runs-passed : Passed w h size beam
+  runs-passed = run-tests .0
+
+  pub runs-within : runNumbers list ≡ true
+  runs-within = met (runNumbers list) 8 0 (λ q. omega arith) (run-tests .1) .0

@@ -8,10 +8,10 @@ use lib.Dec.{eqb}
 use lib.ListN.{length, getD, drop, length-map}
 use lib.IntN.{natAbs}
 use Rattle.refusals.specs.Answers.{pick}
-use Rattle.pixels.specs.Writes.{endOfRow, pixelCharacters}
-use Rattle.pixels.proofs.Going.{characters-more, characters-none}
-use Rattle.pixels.proofs.pixel_characters.Statement.{statement}
-use Rattle.pixels.proofs.pixel_characters.Tie as tie
+use Rattle.pixel_refusals.specs.Tests.{endOfRow, pixelCharacters}
+use Rattle.pixel_refusals.proofs.Entries.{characters-more, characters-none}
+use Rattle.pixel_refusals.proofs.pixel_characters.Statement.{statement}
+use Rattle.pixel_refusals.proofs.pixel_characters.Tie as tie
 
 abbrev Inv-loop : tie.InvT-loop
 Inv-loop list count₀ i₀ count i = (i ≤ length list) × (count ≤ i) × (count + pixelCharacters (drop i (map natAbs list)) ≡ pixelCharacters (map natAbs list))

@@ -1,10 +1,10 @@
 use mathlib.Core.Path.{refl}
 use native.Mathlib.Omega.{arith}
-use Rattle.pixels.specs.Marks.{place}
+use Rattle.pixels.specs.Marks.{place, laid, moved}
 use Rattle.pixels.proofs.Laying.{on-surface}
 use borrow.Author.Needs.{needs}
-use Rattle.pixels.proofs.lay.Statement.{statement}
-use Rattle.pixels.proofs.lay.Tie as tie
+use Rattle.pixels.proofs.lay_pixel.Statement.{statement}
+use Rattle.pixels.proofs.lay_pixel.Tie as tie
 
 sub-i : tie.Need-sub-i
 sub-i c = search needs
@@ -28,10 +28,10 @@ same-length : tie.Need-same-length
 same-length c = search needs
 
 returns : tie.Need-returns
-unfolding place
-returns c = (c .step .ensures, refl)
+unfolding place laid moved
+returns c = record { behind = c .step .ensures; surface = refl }
 
-pub lay-spec : {M : Type 1} → statement M
-lay-spec =
+pub lay-pixel-spec : {M : Type 1} → statement M
+lay-pixel-spec =
     tie.close
     (tie.spec sub-i sub-i-2 mul-i add-i slice-write-surface step-requires same-length returns)
