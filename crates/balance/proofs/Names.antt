@@ -12,7 +12,7 @@ use borrow.Author.Tests.{eqb-true, not-true}
 use Rattle.refusals.specs.Answers.{pick, every}
 use Rattle.refusals.proofs.Cases.{by-pick, and-left, and-right}
 use Rattle.beam.specs.declared.Beam.{Beam}
-use Rattle.pixel_refusals.specs.Tests.{perCharacter, endOfRow, isRaster, needed, pixelCharacters, rasterCharacters, rasterRefusal}
+use Rattle.pixel_refusals.specs.Tests.{perCharacter, endOfRow, pixelCharacters, rasterRefusal}
 use Rattle.pixels.specs.Marks.{Mark, ink, gap, moved, rowEnd, colours}
 use Rattle.pixels.specs.Writes.{pixels, characterMarks, leftAfter, rasterMarks, run, runMarks, runTotal, written, drawRaster, drawRuns, rasterOf}
 use Rattle.pixels.proofs.Laying.{moved-bits}

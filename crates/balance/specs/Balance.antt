@@ -1,7 +1,10 @@
--- "Over any sequence of writes each colour's count follows from the list of colours named and the places not reached; nothing outside the
--- viewport changes; the cuts between writes do not matter." With the end-of-row of K1 the "list then has gaps: each place holds the last colour laid
--- on it, gaps aside, and the counts are taken of those places. T counts gaps for the beam and not for the number returned." What this says: the
--- record Balanced. proofs/Theorem.antt proves it.
+-- Demand 3: "The pixels balance. Take any surface and valid record, and any pixel writes, with RU between them or not, each call taking the surface, its
+-- size and the record as the last left them, and no viewport or beam set or stepped between. List the colours that the accepted writes name, in
+-- order; refused writes name none. Let T be their number and A the viewport's area. Afterwards each colour's count on the surface equals its count
+-- among the last T or A of the list, the smaller, plus its count on the places not reached. Nothing outside the viewport changes, and the same list cut
+-- into other writes, run or raster, leaves the same surface."
+-- K1: "Demand 3's list then has gaps: each place holds the last colour laid on it, gaps aside, and the counts are taken of those places. T counts gaps for
+-- the beam and not for the number returned." What both say: the record Balanced. proofs/Theorem.antt proves it.
 use Prim.Native.Nat.{ℕ, zero, suc, _+_, _-_, _*_, _/_, _%_, min}
 use mathlib.Core.Path.{_≡_}
 use mathlib.Core.Bool.{Bool, true, false, not, _||_}
@@ -159,18 +162,19 @@ module _ (w h : ℕ) (st : State) (calls : List Call) where
     pub places : (i : ℕ) → getD (end .surface) i 0 ≡ lastLaid f ms i (getD (st .surface) i 0)
     -- "and the counts are taken of those places": the colours that stay, and the bytes that no colour is laid on
     pub counts : (c : ℕ) → count c (end .surface) ≡ count c (kept f ms) + count c (elsewhere (coloured f ms) (st .surface))
-    -- "nothing outside the viewport changes"
+    -- "Nothing outside the viewport changes"
     pub outside : (i : ℕ) → isOutside w h (st .beam) i ≡ true → getD (end .surface) i 0 ≡ getD (st .surface) i 0
     pub size : length (end .surface) ≡ length (st .surface)
-    -- "the cuts between writes do not matter": what is left is what laying the list leaves, and the beam is T steps on, the record's bits aside
+    -- what is left is what laying the list leaves, and the beam is T steps on, the record's bits aside
     pub surface-laid : end .surface ≡ laid w h ms (st .beam) (st .surface)
     pub beam-moved : bitsAside (end .beam) ≡ bitsAside (steps T (st .beam))
-    -- so other calls that name the same list from the same state leave the same
+    -- so "the same list cut into other writes, run or raster, leaves the same surface", and the same beam
     pub same-surface : (others : List Call) → namedBy w h others st ≡ ms → ran w h others st .surface ≡ end .surface
     pub same-beam : (others : List Call) → namedBy w h others st ≡ ms → bitsAside (ran w h others st .beam) ≡ bitsAside (end .beam)
     -- a write "returns its number of pixels": as many as the colours that it names, gaps aside, whatever state it meets
     pub numbers : (call : Call) (met : State) → returned w h call met ≡ length (colours (named w h call met))
-    -- where the marks are all colours, "each colour's count follows from the list of colours named and the places not reached"
+    -- where the marks are all colours, "each colour's count on the surface equals its count among the last T or A of the list, the smaller, plus its
+    -- count on the places not reached"
     pub without-gaps : (cs : List ℕ) → ms ≡ inks cs → (c : ℕ) → count c (end .surface) ≡ count c (lastOf (min T A) cs) + count c (elsewhere (isReached f T) (st .surface))
     -- and they are where no call has a 96
     pub no-gaps : every noRowEnd calls ≡ true → ms ≡ inks (colours ms)

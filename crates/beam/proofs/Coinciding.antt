@@ -1,7 +1,6 @@
 -- Two conforming answers of a call on the record coincide.
-use mathlib.Core.Path.{_≡_, refl, ap, _∙_}
+use mathlib.Core.Path.{_≡_, refl, ap}
 use lib.Dec.{eqb}
-use Rattle.refusals.specs.Refusals.{numberOf}
 use Rattle.refusals.specs.Answers.{pick}
 use Rattle.refusals.proofs.Numbers.{not-nought}
 use Rattle.refusals.proofs.Coinciding.{named, named-back, coincide}

@@ -1,8 +1,7 @@
 -- The tests of a record and the calls that set it, by what their parts gave.
-use Prim.Native.Nat.{ℕ, _≤_, _<_, min, max}
+use Prim.Native.Nat.{ℕ, _≤_, min, max}
 use mathlib.Core.Path.{_≡_, refl, sym, _∙_, ap}
 use mathlib.Core.Bool.{Bool, true, false, not, _&&_}
-use native.Mathlib.Omega.{arith}
 use borrow.Author.Tests.{not-true, not-false, eq-eqb, ne-eqb, leb-true}
 use lib.Dec.{leb}
 use lib.IntN.{ℤ, pos, negsuc, natAbs}
@@ -14,7 +13,6 @@ use Rattle.refusals.proofs.Cases.{zero-one, and-left, and-right}
 use Rattle.memory.specs.declared.Point.{Point}
 use Rattle.numbers.specs.Integers.{isNegative}
 use Rattle.beam.specs.declared.Beam.{Beam}
-use Rattle.beam.specs.declared.Setting.{Setting}
 use Rattle.beam.specs.declared.Setting.the-variants.{Set, Refused}
 use Rattle.beam.specs.Validity.{isSize, isBits, onSurface, inViewport, isValid}
 use Rattle.beam.specs.Settings.{settingOf, settled, Settled, freshBeam, noBeam, makeFresh, bitsFrom, withBits, setBits, cornersOn, framed, setViewport, beamAt, setBeam, stepped, makeStep}

@@ -1,7 +1,7 @@
 -- From what the unit's calls answer to the numbers of the exported ones. A signed argument comes back from a callee's contract as the machine
 -- reads it.
 use Prim.Native.Nat.{ℕ}
-use mathlib.Core.Path.{_≡_, _∙_, ap}
+use mathlib.Core.Path.{_≡_, _∙_}
 use mathlib.Core.List.{List}
 use lib.IntN.{ℤ}
 use mir.Syntax.{w32}

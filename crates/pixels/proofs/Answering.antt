@@ -1,6 +1,6 @@
 -- The two writes, by their verdict: refused and unchanged, or laid whole.
 use Prim.Native.Nat.{ℕ, _≤_, _<_}
-use mathlib.Core.Path.{_≡_, refl}
+use mathlib.Core.Path.{_≡_}
 use mathlib.Core.Bool.{true}
 use mathlib.Core.List.{List, map}
 use borrow.Author.Tests.{eq-eqb}
@@ -19,7 +19,7 @@ use Rattle.pixel_refusals.specs.declared.Verdict.the-variants as verdicts
 use Rattle.pixel_refusals.specs.Tests.{isRaster, runNumbers, rasterRefusal, runRefusal, verdictOf}
 use Rattle.pixel_refusals.proofs.Looking.{Passed, refusal-of, none-of, raster-passed, raster-within, runs-passed, runs-within}
 use Rattle.pixels.specs.declared.Drawing.the-variants.{Drawn, Refused}
-use Rattle.pixels.specs.Marks.{Mark, moved}
+use Rattle.pixels.specs.Marks.{Mark}
 use Rattle.pixels.specs.Writes.{rasterMarks, runMarks, runTotal, drawingOf, written, surfaceAfter, drawRaster, rasterSurface, drawRuns, runsSurface}
 use Rattle.pixels.specs.Standing.{Ready, MarksLaid}
 use Rattle.pixels.proofs.Laying.{ready-of}

@@ -1,21 +1,20 @@
 -- Laws of the laying: a step keeps the beam inside, marks laid one behind another are laid as one list, and a beam's place lies on the surface.
 use Prim.Native.Nat.{ℕ, _+_, _-_, _*_, _≤_, _<_}
-use mathlib.Core.Path.{_≡_, refl, sym, _∙_, ap}
-use mathlib.Core.Bool.{Bool, true, false, _&&_}
+use mathlib.Core.Path.{_≡_, refl, _∙_}
+use mathlib.Core.Bool.{true, _&&_}
 use mathlib.Core.List.{List, [], _∷_, _++_}
 use native.Mathlib.Omega.{arith}
 use lib.Arith.{digits-lt}
 use lib.Dec.{leb, ltb, eqb}
 use lib.ListN.{length, getD, set, length-set}
-use borrow.Author.Tests.{lt-ltb, le-ltb, leb-true, ltb-true, ltb-false, eqb-true}
-use Rattle.refusals.specs.Answers.{pick}
+use borrow.Author.Tests.{leb-true, ltb-true, ltb-false, eqb-true}
 use Rattle.refusals.proofs.Cases.{by-pick, and-left, and-right}
 use Rattle.beam.specs.declared.Beam.{Beam}
-use Rattle.beam.specs.Validity.{isSize, isBits, onSurface, inViewport, isValid}
+use Rattle.beam.specs.Validity.{isSize, onSurface, inViewport, isValid}
 use Rattle.beam.specs.Settings.{beamAt, stepped}
 use Rattle.pixel_refusals.specs.Tests.{isSurface}
 use Rattle.pixel_refusals.proofs.Looking.{area-le, size-of}
-use Rattle.pixels.specs.Marks.{Mark, ink, act, place, laid, moved}
+use Rattle.pixels.specs.Marks.{Mark, act, place, laid, moved}
 use Rattle.pixels.specs.Standing.{BeamInside, Ready}
 
 -- ---- the beam's place

@@ -1,11 +1,11 @@
-use Prim.Native.Nat.{ℕ, _+_, _-_, _≤_, _<_}
+use Prim.Native.Nat.{_+_, _-_, _≤_, _<_}
 use mathlib.Core.Path.{_≡_, refl}
 use mathlib.Core.List.{map, _++_}
 use native.Mathlib.Omega.{arith}
 use borrow.Author.Needs.{needs}
 use lib.ListN.{length, getD, drop, length-map}
 use lib.IntN.{natAbs}
-use Rattle.pixels.specs.Marks.{laid, moved}
+use Rattle.pixels.specs.Marks.{moved}
 use Rattle.pixels.specs.Writes.{characterMarks, leftAfter, rasterMarks}
 use Rattle.pixels.proofs.Going.{Going, going, going-on, going-done, raster-more, raster-none}
 use Rattle.pixel_refusals.proofs.Entries.{entry-within}

@@ -1,12 +1,11 @@
-use Prim.Native.Nat.{ℕ, _+_, _-_, _*_, _/_, _%_, _^_, _≤_, _<_}
-use mathlib.Core.Path.{_≡_, refl}
+use Prim.Native.Nat.{_+_, _-_, _*_, _/_, _%_, _^_, _≤_, _<_}
+use mathlib.Core.Path.{_≡_}
 use mathlib.Core.List.{map, _++_}
 use native.Mathlib.Omega.{arith}
 use lib.Bits.{bitAnd}
 use lib.Pow.{pow-pos}
 use lib.ListN.{length, getD, drop, length-map}
 use lib.IntN.{natAbs}
-use Rattle.pixels.specs.Marks.{Mark, laid, moved}
 use Rattle.pixels.specs.Writes.{run, runMarks}
 use Rattle.pixels.proofs.Going.{Going, going, going-on, going-done, runs-more, runs-none}
 use Rattle.pixels.proofs.Bits.{mask-ok, masked, low-lt}
