@@ -1,7 +1,7 @@
 -- From what the unit's calls answer to the numbers of the exported ones. A signed argument comes back from a callee's contract as the machine
 -- reads it.
 use Prim.Native.Nat.{ℕ}
-use mathlib.Core.Path.{_≡_, _∙_}
+use mathlib.Core.Path.{_≡_, refl, _∙_}
 use mathlib.Core.List.{List}
 use lib.IntN.{ℤ}
 use mir.Syntax.{w32}
@@ -20,59 +20,30 @@ use Rattle.pixels.specs.Writes.{WriteOutcome, drawingOf, drawRaster, rasterSurf
 use Rattle.pixel_calls.specs.Fields.{beamIn, fieldsOf}
 use Rattle.pixel_calls.specs.Promises.{HandsSettled, HandsWritten}
 
-pub settled-so : (s : Setting) {d : Settled} {n : ℕ} {l : List ℕ} → settingOf s ≡ d → n ≡ settingOf s .number → l ≡ fieldsOf (settingOf s .after) → HandsSettled d n l
-settled-so s es en el = rw (← es) (record { number = en; beam = el })
+pub settled-so : (s : Setting) {d : Settled} {n : ℕ} {l : List ℕ} → settingOf s ≡ d → HandsSettled (settingOf s) n l → HandsSettled d n l
+settled-so s e h = rw e at h
 
-pub written-so : (s : Drawing) {d : WriteOutcome} {n k : ℕ} {l t u : List ℕ} → drawingOf s ≡ d → n ≡ drawingOf s .number → k ≡ drawingOf s .count
-    → l ≡ fieldsOf (drawingOf s .after) → u ≡ t → HandsWritten d t n k l u
-written-so s es en ek el eu = rw (← es) (record { number = en; pixels = ek; beam = el; bytes = eu })
+pub written-so : (s : Drawing) {d : WriteOutcome} {n k : ℕ} {l : List ℕ} → drawingOf s ≡ d → HandsWritten (drawingOf s) n k l → HandsWritten d n k l
+written-so s e h = rw e at h
 
 -- ---- by the answer's case
 
-module _ {s : Setting} {b : Beam} where
-  pub set-number : s ≡ settings.Set b → 0 ≡ settingOf s .number
+module _ {b : Beam} {l : List ℕ} (el : l ≡ fieldsOf b) where
+  pub when-set : {s : Setting} → s ≡ settings.Set b → HandsSettled (settingOf s) 0 l
   unfolding settingOf
-  set-number e = rw e
+  when-set e = rw e (record { same-number = refl; same-record = el })
 
-  pub set-fields : s ≡ settings.Set b → {l : List ℕ} → l ≡ fieldsOf b → l ≡ fieldsOf (settingOf s .after)
+  pub when-not-set : {s : Setting} {f : Refusal} {n : ℕ} → s ≡ settings.Refused f b → n ≡ numberOf f → HandsSettled (settingOf s) n l
   unfolding settingOf
-  set-fields e j = rw e j
+  when-not-set e en = rw e (record { same-number = en; same-record = el })
 
-  module _ {f : Refusal} (e : s ≡ settings.Refused f b) where
-    pub not-set-number : {n : ℕ} → n ≡ numberOf f → n ≡ settingOf s .number
-    unfolding settingOf
-    not-set-number j = rw e j
+  pub when-drawn : {s : Drawing} {k : ℕ} → s ≡ drawings.Drawn k b → HandsWritten (drawingOf s) 0 k l
+  unfolding drawingOf
+  when-drawn e = rw e (record { same-number = refl; same-count = refl; same-record = el })
 
-    pub not-set-fields : {l : List ℕ} → l ≡ fieldsOf b → l ≡ fieldsOf (settingOf s .after)
-    unfolding settingOf
-    not-set-fields j = rw e j
-
-module _ {s : Drawing} {b : Beam} where
-  module _ {k : ℕ} (e : s ≡ drawings.Drawn k b) where
-    pub drawn-number : 0 ≡ drawingOf s .number
-    unfolding drawingOf
-    drawn-number = rw e
-
-    pub drawn-count : k ≡ drawingOf s .count
-    unfolding drawingOf
-    drawn-count = rw e
-
-    pub drawn-fields : {l : List ℕ} → l ≡ fieldsOf b → l ≡ fieldsOf (drawingOf s .after)
-    unfolding drawingOf
-    drawn-fields j = rw e j
-
-  module _ {f : Refusal} (e : s ≡ drawings.Refused f b) where
-    pub not-drawn-number : {n : ℕ} → n ≡ numberOf f → n ≡ drawingOf s .number
-    unfolding drawingOf
-    not-drawn-number j = rw e j
-
-    pub not-drawn-count : 0 ≡ drawingOf s .count
-    unfolding drawingOf
-    not-drawn-count = rw e
-
-    pub not-drawn-fields : {l : List ℕ} → l ≡ fieldsOf b → l ≡ fieldsOf (drawingOf s .after)
-    unfolding drawingOf
-    not-drawn-fields j = rw e j
+  pub when-not-drawn : {s : Drawing} {f : Refusal} {n : ℕ} → s ≡ drawings.Refused f b → n ≡ numberOf f → HandsWritten (drawingOf s) n 0 l
+  unfolding drawingOf
+  when-not-drawn e en = rw e (record { same-number = en; same-count = refl; same-record = el })
 
 -- ---- what is handed in
 

@@ -1,4 +1,4 @@
--- What an exported call hands back: the promise of the call beneath, with the record as seven numbers.
+-- What a call hands back, with the record as seven numbers: the promise of an exported call names the answer of the call beneath once.
 use Prim.Native.Nat.{ℕ}
 use mathlib.Core.Path.{_≡_}
 use mathlib.Core.List.{List}
@@ -6,14 +6,13 @@ use Rattle.beam.specs.Settings.{Settled}
 use Rattle.pixels.specs.Writes.{WriteOutcome}
 use Rattle.pixel_calls.specs.Fields.{fieldsOf}
 
--- a call on the record that is to give s: the number returned, and the lent record in the end
-pub record HandsSettled (s : Settled) (r : ℕ) (fields : List ℕ) : Type 0 where
-  pub number : r ≡ s .number
-  pub beam : fields ≡ fieldsOf (s .after)
+-- a call on the record: 0 or the refusal's number, and the record
+pub record HandsSettled (s : Settled) (number : ℕ) (fields : List ℕ) : Type 0 where
+  pub same-number : number ≡ s .number
+  pub same-record : fields ≡ fieldsOf (s .after)
 
--- a write that is to give o and leave the surface t: the number returned, and the lent count, record and surface in the end
-pub record HandsWritten (o : WriteOutcome) (t : List ℕ) (r count : ℕ) (fields surface : List ℕ) : Type 0 where
-  pub number : r ≡ o .number
-  pub pixels : count ≡ o .count
-  pub beam : fields ≡ fieldsOf (o .after)
-  pub bytes : surface ≡ t
+-- a write: these, and the number of pixels
+pub record HandsWritten (o : WriteOutcome) (number count : ℕ) (fields : List ℕ) : Type 0 where
+  pub same-number : number ≡ o .number
+  pub same-count : count ≡ o .count
+  pub same-record : fields ≡ fieldsOf (o .after)

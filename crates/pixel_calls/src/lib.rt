@@ -47,33 +47,74 @@ fn fields_of(beam: Beam) -> [usize; 7]
     ]
 }
 
-// ---- setting it
+// ---- what an answer hands back
 
-fn set_number(setting: Setting) -> u8
-    ensures { λ r. ⌜ r ≡ settingOf setting .number ⌝ }
+// 0 or the refusal's number, the number of pixels, and the record.
+struct Handed {
+    number: u8,
+    count: usize,
+    fields: [usize; 7],
+}
+
+fn of_setting(setting: Setting) -> Handed
+    ensures { λ r. ⌜ HandsSettled (settingOf setting) (r .number) (r .fields) ⌝ }
 {
     match setting {
-        Setting::Set(_) => 0,
-        Setting::Refused(e, _) => refusals::number(e),
+        Setting::Set(beam) => {
+            let fields = fields_of(beam);
+            Handed {
+                number: 0,
+                count: 0,
+                fields: fields,
+            }
+        }
+        Setting::Refused(e, beam) => {
+            let number = refusals::number(e);
+            let fields = fields_of(beam);
+            Handed {
+                number: number,
+                count: 0,
+                fields: fields,
+            }
+        }
     }
 }
 
-fn set_fields(setting: Setting) -> [usize; 7]
-    ensures { λ r. ⌜ r ≡ fieldsOf (settingOf setting .after) ⌝ }
+fn of_drawing(drawing: Drawing) -> Handed
+    ensures { λ r. ⌜ HandsWritten (drawingOf drawing) (r .number) (r .count) (r .fields) ⌝ }
 {
-    match setting {
-        Setting::Set(beam) => fields_of(beam),
-        Setting::Refused(_, beam) => fields_of(beam),
+    match drawing {
+        Drawing::Drawn(n, beam) => {
+            let fields = fields_of(beam);
+            Handed {
+                number: 0,
+                count: n,
+                fields: fields,
+            }
+        }
+        Drawing::Refused(e, beam) => {
+            let number = refusals::number(e);
+            let fields = fields_of(beam);
+            Handed {
+                number: number,
+                count: 0,
+                fields: fields,
+            }
+        }
     }
 }
+
+// ---- setting the record
 
 #[no_mangle]
 pub extern "C" fn ardh_fresh(w: usize, h: usize, fields: &mut [usize; 7]) -> u8
     ensures { λ r. ⌜ HandsSettled (makeFresh w h) r (now (fields .exit)) ⌝ }
 {
     let setting = beam::fresh(w, h);
-    *fields = set_fields(setting);
-    set_number(setting)
+    let handed = of_setting(setting);
+    let back = handed.fields;
+    *fields = back;
+    handed.number
 }
 
 // RU
@@ -89,8 +130,10 @@ pub extern "C" fn ardh_set_bits(
     ensures { λ r. ⌜ HandsSettled (setBits w h (beamIn (now (fields .entry))) first second third) r (now (fields .exit)) ⌝ }
 {
     let setting = beam::set_bits(w, h, beam_in(fields), first, second, third);
-    *fields = set_fields(setting);
-    set_number(setting)
+    let handed = of_setting(setting);
+    let back = handed.fields;
+    *fields = back;
+    handed.number
 }
 
 // RS
@@ -109,8 +152,10 @@ pub extern "C" fn ardh_set_viewport(
     let from = coordinates::point_of(x, y);
     let to = coordinates::point_of(x2, y2);
     let setting = beam::set_viewport(w, h, beam_in(fields), from, to);
-    *fields = set_fields(setting);
-    set_number(setting)
+    let handed = of_setting(setting);
+    let back = handed.fields;
+    *fields = back;
+    handed.number
 }
 
 // RH
@@ -120,8 +165,10 @@ pub extern "C" fn ardh_set_beam(w: usize, h: usize, fields: &mut [usize; 7], x: 
 {
     let to = coordinates::point_of(x, y);
     let setting = beam::set_beam(w, h, beam_in(fields), to);
-    *fields = set_fields(setting);
-    set_number(setting)
+    let handed = of_setting(setting);
+    let back = handed.fields;
+    *fields = back;
+    handed.number
 }
 
 // One step of the beam.
@@ -130,38 +177,13 @@ pub extern "C" fn ardh_step(w: usize, h: usize, fields: &mut [usize; 7]) -> u8
     ensures { λ r. ⌜ HandsSettled (makeStep w h (beamIn (now (fields .entry)))) r (now (fields .exit)) ⌝ }
 {
     let setting = beam::step_on(w, h, beam_in(fields));
-    *fields = set_fields(setting);
-    set_number(setting)
+    let handed = of_setting(setting);
+    let back = handed.fields;
+    *fields = back;
+    handed.number
 }
 
 // ---- the two writes
-
-fn drawn_number(drawing: Drawing) -> u8
-    ensures { λ r. ⌜ r ≡ drawingOf drawing .number ⌝ }
-{
-    match drawing {
-        Drawing::Drawn(_, _) => 0,
-        Drawing::Refused(e, _) => refusals::number(e),
-    }
-}
-
-fn drawn_count(drawing: Drawing) -> usize
-    ensures { λ r. ⌜ r ≡ drawingOf drawing .count ⌝ }
-{
-    match drawing {
-        Drawing::Drawn(n, _) => n,
-        Drawing::Refused(_, _) => 0,
-    }
-}
-
-fn drawn_fields(drawing: Drawing) -> [usize; 7]
-    ensures { λ r. ⌜ r ≡ fieldsOf (drawingOf drawing .after) ⌝ }
-{
-    match drawing {
-        Drawing::Drawn(_, beam) => fields_of(beam),
-        Drawing::Refused(_, beam) => fields_of(beam),
-    }
-}
 
 // RP
 #[no_mangle]
@@ -174,12 +196,15 @@ pub extern "C" fn ardh_draw_raster(
     characters: &[i32],
     count: &mut usize,
 ) -> u8
-    ensures { λ r. ⌜ HandsWritten (drawRaster w h (beamIn (now (fields .entry))) n (now (characters .entry)) (length (now (surface .entry)))) (rasterSurface w h (beamIn (now (fields .entry))) n (now (characters .entry)) (now (surface .entry))) r (now (count .exit)) (now (fields .exit)) (now (surface .exit)) ⌝ }
+    ensures { λ r. ⌜ HandsWritten (drawRaster w h (beamIn (now (fields .entry))) n (now (characters .entry)) (length (now (surface .entry)))) r (now (count .exit)) (now (fields .exit)) ⌝ }
+    ensures { λ _. ⌜ now (surface .exit) ≡ rasterSurface w h (beamIn (now (fields .entry))) n (now (characters .entry)) (now (surface .entry)) ⌝ }
 {
     let drawing = pixels::draw_raster(surface, w, h, beam_in(fields), n, characters);
-    *fields = drawn_fields(drawing);
-    *count = drawn_count(drawing);
-    drawn_number(drawing)
+    let handed = of_drawing(drawing);
+    let back = handed.fields;
+    *fields = back;
+    *count = handed.count;
+    handed.number
 }
 
 // RL
@@ -192,10 +217,13 @@ pub extern "C" fn ardh_draw_runs(
     codes: &[i32],
     count: &mut usize,
 ) -> u8
-    ensures { λ r. ⌜ HandsWritten (drawRuns w h (beamIn (now (fields .entry))) (now (codes .entry)) (length (now (surface .entry)))) (runsSurface w h (beamIn (now (fields .entry))) (now (codes .entry)) (now (surface .entry))) r (now (count .exit)) (now (fields .exit)) (now (surface .exit)) ⌝ }
+    ensures { λ r. ⌜ HandsWritten (drawRuns w h (beamIn (now (fields .entry))) (now (codes .entry)) (length (now (surface .entry)))) r (now (count .exit)) (now (fields .exit)) ⌝ }
+    ensures { λ _. ⌜ now (surface .exit) ≡ runsSurface w h (beamIn (now (fields .entry))) (now (codes .entry)) (now (surface .entry)) ⌝ }
 {
     let drawing = pixels::draw_runs(surface, w, h, beam_in(fields), codes);
-    *fields = drawn_fields(drawing);
-    *count = drawn_count(drawing);
-    drawn_number(drawing)
+    let handed = of_drawing(drawing);
+    let back = handed.fields;
+    *fields = back;
+    *count = handed.count;
+    handed.number
 }

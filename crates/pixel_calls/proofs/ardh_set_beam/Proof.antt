@@ -13,11 +13,8 @@ beam-in-requires c κs = search needs
 set-beam-requires : tie.Need-set-beam-requires
 set-beam-requires c κs = search needs
 
-set-fields-requires : tie.Need-set-fields-requires
-set-fields-requires c κs = search needs
-
-set-number-requires : tie.Need-set-number-requires
-set-number-requires c κs = search needs
+of-setting-requires : tie.Need-of-setting-requires
+of-setting-requires c κs = search needs
 
 returns : tie.Need-returns
 returns c = search (needs, settled-so, beam-given, point-given)
@@ -25,10 +22,4 @@ returns c = search (needs, settled-so, beam-given, point-given)
 pub ardh-set-beam-spec : {M : Type 1} → statement M
 ardh-set-beam-spec =
     tie.close
-    (tie.spec
-    point-of-requires
-    beam-in-requires
-    set-beam-requires
-    set-fields-requires
-    set-number-requires
-    returns)
+    (tie.spec point-of-requires beam-in-requires set-beam-requires of-setting-requires returns)

@@ -16,11 +16,8 @@ beam-in-requires c κs = search needs
 set-viewport-requires : tie.Need-set-viewport-requires
 set-viewport-requires c κs = search needs
 
-set-fields-requires : tie.Need-set-fields-requires
-set-fields-requires c κs = search needs
-
-set-number-requires : tie.Need-set-number-requires
-set-number-requires c κs = search needs
+of-setting-requires : tie.Need-of-setting-requires
+of-setting-requires c κs = search needs
 
 returns : tie.Need-returns
 returns c = search (needs, settled-so, viewport-given, point-given)
@@ -33,6 +30,5 @@ ardh-set-viewport-spec =
     point-of-requires-2
     beam-in-requires
     set-viewport-requires
-    set-fields-requires
-    set-number-requires
+    of-setting-requires
     returns)
