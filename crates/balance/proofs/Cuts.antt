@@ -1,20 +1,20 @@
--- "The cuts between writes do not matter": RP cut behind whole characters, ends of rows among them, names what it names in one write.
+-- "The same list cut into other writes": RP cut behind whole characters, ends of rows among them, names what it names in one write.
 use Prim.Native.Nat.{ℕ, _+_, _-_, _*_, _/_, min}
 use mathlib.Core.Path.{_≡_, refl, sym, _∙_, ap}
 use mathlib.Core.Bool.{Bool, true, false}
 use mathlib.Core.List.{List, [], _∷_, _++_, map, append-nil, append-assoc, map-append}
 use native.Mathlib.Nat.{zero-add, mul-zero, mul-suc}
 use native.Mathlib.Omega.{arith}
-use lib.ListN.{length}
 use lib.Dec.{eqb}
 use lib.IntN.{ℤ, pos, natAbs}
 use borrow.Author.Tests.{eq-eqb}
 use Rattle.refusals.specs.Answers.{pick}
 use Rattle.beam.specs.declared.Beam.{Beam}
+use Rattle.pixel_refusals.specs.Tests.{perCharacter, endOfRow, pixelCharacters}
 use Rattle.pixels.specs.Marks.{Mark, moved, rowEnd}
-use Rattle.pixels.specs.Writes.{perCharacter, pixels, endOfRow, characterMarks, leftAfter, rasterMarks, rasterOf, pixelCharacters, written, drawRaster}
+use Rattle.pixels.specs.Writes.{pixels, characterMarks, leftAfter, rasterMarks, rasterOf, written, drawRaster}
 use Rattle.pixels.proofs.Laying.{moved-append, moved-bits}
-use Rattle.balance.specs.Balance.{Call, raster, State, rasterTold, after, named, namedBy}
+use Rattle.balance.specs.Balance.{raster, State, rasterOutcome, after, named, namedBy}
 
 -- n pixels that just fill the characters ch and then k more
 module _ (beam : Beam) (n m ch k : ℕ) (e : n ≡ perCharacter (beam .bits) * (pick (eqb ch endOfRow) 0 1 + k)) where
@@ -68,8 +68,8 @@ raster-cut (ch ∷ a) b beam n m e =
 -- ---- calls
 
 module _ (w h : ℕ) (st : State) (n m : ℕ) (a b : List ℤ) (filled : n ≡ perCharacter (st .beam .bits) * pixelCharacters (map natAbs a))
-    (whole : rasterTold w h (pos (n + m)) (a ++ b) st .number ≡ 0) (first : rasterTold w h (pos n) a st .number ≡ 0)
-    (second : rasterTold w h (pos m) b (after w h (raster (pos n) a) st) .number ≡ 0) where
+    (whole : rasterOutcome w h (pos (n + m)) (a ++ b) st .number ≡ 0) (first : rasterOutcome w h (pos n) a st .number ≡ 0)
+    (second : rasterOutcome w h (pos m) b (after w h (raster (pos n) a) st) .number ≡ 0) where
   behind : after w h (raster (pos n) a) st .beam ≡ moved (rasterOf (st .beam) (pos n) a) (st .beam)
   unfolding after drawRaster written
   behind = rw (eq-eqb _ 0 first)

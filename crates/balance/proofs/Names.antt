@@ -3,7 +3,7 @@ use Prim.Native.Nat.{ℕ, zero, suc, _+_, _-_, _*_, _/_, _%_, _^_, _≤_, _<_, m
 use mathlib.Core.Path.{_≡_, refl, sym, _∙_, ap}
 use mathlib.Core.Bool.{Bool, true, false, not}
 use mathlib.Core.List.{List, [], _∷_, _++_, map}
-use native.Mathlib.Nat.{zero-add, mul-zero, mul-suc, div-add-mod, mod-lt, min-eq-left, pos-of-ne-zero}
+use native.Mathlib.Nat.{zero-add, mul-zero, mul-suc, div-add-mod, mod-lt, min-eq-left}
 use native.Mathlib.Omega.{arith}
 use lib.ListN.{length, length-append, replicate}
 use lib.Dec.{eqb}
@@ -12,12 +12,12 @@ use borrow.Author.Tests.{eqb-true, not-true}
 use Rattle.refusals.specs.Answers.{pick, every}
 use Rattle.refusals.proofs.Cases.{by-pick, and-left, and-right}
 use Rattle.beam.specs.declared.Beam.{Beam}
+use Rattle.pixel_refusals.specs.Tests.{perCharacter, endOfRow, pixelCharacters, rasterRefusal}
 use Rattle.pixels.specs.Marks.{Mark, ink, gap, moved, rowEnd, colours}
-use Rattle.pixels.specs.Writes.{perCharacter, pixels, endOfRow, characterMarks, leftAfter, rasterMarks, run, runMarks, runTotal, isRaster, needed, pixelCharacters, rasterCharacters, rasterRefusal, written, drawRaster, drawRuns, rasterOf}
+use Rattle.pixels.specs.Writes.{pixels, characterMarks, leftAfter, rasterMarks, run, runMarks, runTotal, written, drawRaster, drawRuns, rasterOf}
 use Rattle.pixels.proofs.Laying.{moved-bits}
-use Rattle.pixels.proofs.Looking.{some-per-character, valid-bits}
-use Rattle.pixels.proofs.Answering.{raster-spelt, raster-passes}
-use Rattle.balance.specs.Balance.{Call, raster, runs, bits, State, rasterTold, runsTold, after, returned, named, namedBy, inks, noRowEnd}
+use Rattle.pixel_refusals.proofs.Looking.{some-per-character, raster-passed, raster-enough}
+use Rattle.balance.specs.Balance.{Call, raster, runs, bits, State, rasterOutcome, runsOutcome, after, returned, named, namedBy, inks, noRowEnd}
 
 colours-append : (xs ys : List Mark) → colours (xs ++ ys) ≡ colours xs ++ colours ys
 unfolding colours
@@ -86,8 +86,8 @@ inked-pick b ms i = by-pick Inked b ms [] (λ e. i) (λ e. inked-none)
 
 inked-named : (w h : ℕ) (call : Call) (st : State) → noRowEnd call ≡ true → Inked (named w h call st)
 unfolding named noRowEnd
-inked-named w h (raster n chs) st e = inked-pick (eqb (rasterTold w h n chs st .number) 0) _ (inked-raster (st .beam) (natAbs n) chs e)
-inked-named w h (runs codes) st e = inked-pick (eqb (runsTold w h codes st .number) 0) _ (inked-runs (st .beam .bits) (map natAbs codes))
+inked-named w h (raster n chs) st e = inked-pick (eqb (rasterOutcome w h n chs st .number) 0) _ (inked-raster (st .beam) (natAbs n) chs e)
+inked-named w h (runs codes) st e = inked-pick (eqb (runsOutcome w h codes st .number) 0) _ (inked-runs (st .beam .bits) (map natAbs codes))
 inked-named w h (bits first second third) st e = inked-none
 
 pub inked-by : (w h : ℕ) (calls : List Call) (st : State) → every noRowEnd calls ≡ true → Inked (namedBy w h calls st)
@@ -152,15 +152,10 @@ enough m n l =
     omega arith
 
 tally-accepted : (w h size : ℕ) (beam : Beam) (n : ℤ) (chs : List ℤ) → rasterRefusal w h size beam n chs ≡ 0 → tally (rasterOf beam n chs) ≡ natAbs n
-unfolding rasterCharacters
 tally-accepted w h size beam n chs e =
     let b = beam .bits in
-    let p = raster-passes w h size beam n chs e in
-    let k : ℕ = needed b (natAbs n) in
-    let c : ℕ = pixelCharacters (map natAbs chs) in
-    let l : c ≡ k = eqb-true c k (and-left (eqb c k) (every isRaster chs) (raster-spelt w h size beam n chs e)) in
-    let s : 0 < 6 / b = some-per-character b (pos-of-ne-zero (p .bits)) (valid-bits w h beam (p .valid)) in
-    let m : natAbs n ≤ 6 / b * c = rw l (enough (6 / b) (natAbs n) s) in
+    let p = raster-passed w h size beam n chs e in
+    let m : natAbs n ≤ 6 / b * pixelCharacters (map natAbs chs) = rw (raster-enough w h size beam n chs e) (enough (6 / b) (natAbs n) (some-per-character b (p .some) (p .six))) in
     tally-raster b beam refl (natAbs n) (map natAbs chs) ∙ min-eq-left m
 
 -- ---- a call returns as many as it names

@@ -12,7 +12,7 @@ use Rattle.beam.specs.declared.Beam.{Beam}
 use Rattle.beam.specs.Validity.{inViewport}
 use Rattle.beam.specs.Settings.{beamAt, stepped}
 use Rattle.pixels.specs.Marks.{gap, place, moved}
-use Rattle.pixels.specs.Standing.{Valid}
+use Rattle.pixels.specs.Standing.{BeamInside}
 use Rattle.pixels.proofs.Laying.{by-step}
 use Rattle.balance.specs.Balance.{area, track, isOutside}
 use Rattle.balance.proofs.Track.{Round}
@@ -35,7 +35,7 @@ seatOf b = (b .top - b .y) * columns b + (b .x - b .left)
 seat-at : (b : Beam) (q r : ℕ) {x y : ℕ} → r < columns b → x ≡ b .left + r → y ≡ b .top - q → beamAt b x y ≡ seat b (q * columns b + r)
 seat-at b q r l ex ey = rw (ex, ey, digits-div q l, digits-mod q l)
 
-step-at : {w h : ℕ} {b : Beam} → Valid w h b → (q r : ℕ) → q < rows b → r < columns b
+step-at : {w h : ℕ} {b : Beam} → BeamInside w h b → (q r : ℕ) → q < rows b → r < columns b
     → stepped (beamAt b (b .left + r) (b .top - q)) ≡ seat b (suc (q * columns b + r) % area b)
 step-at {b = b} v q r l m =
     by-step (λ (n : Beam). n ≡ seat b (suc (q * columns b + r) % area b)) (beamAt b (b .left + r) (b .top - q))
@@ -55,7 +55,7 @@ step-at {b = b} v q r l m =
     let o : 0 * columns b + 0 ≡ 0 = omega (arith, zero-mul (columns b)) in
     rw (n, mod-self (area b)) (seat-at b 0 0 z (omega arith) (omega arith) ∙ ap (seat b) o))
 
-module _ {w h : ℕ} {b : Beam} (v : Valid w h b) where
+module _ {w h : ℕ} {b : Beam} (v : BeamInside w h b) where
   row-lt : (p : ℕ) → p < area b → p / columns b < rows b
   row-lt p l = div-lt-iff-lt-mul {k = columns b} {x = p} {y = rows b} (omega arith) .1 l
 
@@ -136,7 +136,7 @@ mod-apart a u d l m e = go (decLt (u % a + d) a)
         let i : u % a + d - a < a = omega (arith, b) in
         omega (arith, b, f ∙ mod-eq-sub-mod o ∙ mod-eq-of-lt i)
 
-module _ {w h : ℕ} {b : Beam} (v : Valid w h b) where
+module _ {w h : ℕ} {b : Beam} (v : BeamInside w h b) where
   pub track-round : Round (area b) (track w h b)
   track-round = record {
     some = area-pos v;

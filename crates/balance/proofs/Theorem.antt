@@ -8,11 +8,11 @@ use Rattle.refusals.proofs.Cases.{bool-apart}
 use Rattle.beam.specs.declared.Beam.{Beam}
 use Rattle.beam.specs.Validity.{isValid}
 use Rattle.beam.specs.Settings.{stepped}
+use Rattle.pixel_refusals.specs.Tests.{isSurface}
 use Rattle.pixels.specs.Marks.{Mark, ink, gap, act, place, laid, moved}
-use Rattle.pixels.specs.Writes.{isSurface}
 use Rattle.pixels.specs.Standing.{Ready}
-use Rattle.pixels.proofs.Laying.{place-lt, laid-length, moved-valid, ready-of}
-use Rattle.balance.specs.Balance.{Call, State, ran, namedBy, count, lastOf, area, steps, track, reached, elsewhere, lastLaid, coloured, kept, isOutside, bitsAside, inks, Balanced}
+use Rattle.pixels.proofs.Laying.{place-lt, laid-length, moved-inside, ready-of}
+use Rattle.balance.specs.Balance.{Call, State, ran, namedBy, count, lastOf, area, steps, track, isReached, elsewhere, lastLaid, coloured, kept, isOutside, bitsAside, inks, Balanced}
 use Rattle.balance.proofs.Track.{along, elsewhere-ext, balance-any, along-last, along-other, coloured-inks, kept-last}
 use Rattle.balance.proofs.Round.{track-round, track-inside}
 use Rattle.balance.proofs.Names.{inked-all, inked-by, returns-named}
@@ -27,7 +27,7 @@ laid-along w h (m ∷ ms) beam s = laid-along w h ms (stepped beam) (set s (plac
 
 module _ {w h : ℕ} {beam : Beam} (s : List ℕ) (r : Ready w h beam (length s)) where
   track-lt : (k : ℕ) → track w h beam k < length s
-  track-lt k = rw (r .whole) (place-lt (moved-valid (replicate k gap) (r .valid)))
+  track-lt k = rw (r .whole) (place-lt (moved-inside (replicate k gap) (r .inside)))
 
   pub places-marks : (ms : List Mark) (i : ℕ) → getD (laid w h ms beam s) i 0 ≡ lastLaid (track w h beam) ms i (getD s i 0)
   places-marks ms i = rw (laid-along w h ms beam s) (along-last ms (track w h beam) s i track-lt)
@@ -39,16 +39,16 @@ module _ {w h : ℕ} {beam : Beam} (s : List ℕ) (r : Ready w h beam (length s)
 
   -- marks that are all colours: the last of them, and the bytes not reached
   pub balance-inks : (c : ℕ) (cs : List ℕ)
-      → count c (laid w h (inks cs) beam s) ≡ count c (lastOf (min (length cs) (area beam)) cs) + count c (elsewhere (reached (track w h beam) (length cs)) s)
+      → count c (laid w h (inks cs) beam s) ≡ count c (lastOf (min (length cs) (area beam)) cs) + count c (elsewhere (isReached (track w h beam) (length cs)) s)
   balance-inks c cs =
       let f : ℕ → ℕ = track w h beam in
-      let e = elsewhere-ext (coloured f (inks cs)) (reached f (length cs)) s (coloured-inks f cs) in
-      balance-marks c (inks cs) ∙ rw (kept-last cs (track-round (r .valid)), e)
+      let e = elsewhere-ext (coloured f (inks cs)) (isReached f (length cs)) s (coloured-inks f cs) in
+      balance-marks c (inks cs) ∙ rw (kept-last cs (track-round (r .inside)), e)
 
   pub outside-marks : (ms : List Mark) (i : ℕ) → isOutside w h beam i ≡ true → getD (laid w h ms beam s) i 0 ≡ getD s i 0
   outside-marks ms i o =
       rw (laid-along w h ms beam s)
-      (along-other ms (track w h beam) s i (λ k e. bool-apart (sym (track-inside (r .valid) k) ∙ ap (isOutside w h beam) e ∙ o)))
+      (along-other ms (track w h beam) s i (λ k e. bool-apart (sym (track-inside (r .inside) k) ∙ ap (isOutside w h beam) e ∙ o)))
 
 -- marks are steps of the beam, one each
 moved-steps : (ms : List Mark) (beam : Beam) → moved ms beam ≡ steps (length ms) beam

@@ -12,7 +12,7 @@ use lib.Dec.{eqb, eqb·zero-suc, eqb·suc-zero, eqb·suc-suc}
 use borrow.Author.Tests.{eqb-true, eqb-false, eq-eqb, ne-eqb}
 use Rattle.refusals.specs.Answers.{pick}
 use Rattle.pixels.specs.Marks.{Mark, ink, gap, act}
-use Rattle.balance.specs.Balance.{count, lastOf, reached, elsewhere, inks, lastLaid, coloured, kept}
+use Rattle.balance.specs.Balance.{count, lastOf, isReached, elsewhere, inks, lastLaid, coloured, kept}
 
 -- a sequence of places from its second on
 abbrev pub on : (ℕ → ℕ) → ℕ → ℕ
@@ -109,13 +109,13 @@ along-other (m ∷ ms) f s i h = along-other ms (on f) _ i (λ k. h (suc k)) ∙
 
 -- ---- marks that are all colours
 
-pub coloured-inks : (f : ℕ → ℕ) (cs : List ℕ) (i : ℕ) → coloured f (inks cs) i ≡ reached f (length cs) i
-unfolding coloured reached
+pub coloured-inks : (f : ℕ → ℕ) (cs : List ℕ) (i : ℕ) → coloured f (inks cs) i ≡ isReached f (length cs) i
+unfolding coloured isReached
 coloured-inks f [] i = refl
 coloured-inks f (c ∷ cs) i = ap (λ (b : Bool). eqb (f 0) i || b) (coloured-inks (on f) cs i)
 
-reached-at : (f : ℕ → ℕ) (n k : ℕ) → k < n → reached f n (f k) ≡ true
-unfolding reached
+reached-at : (f : ℕ → ℕ) (n k : ℕ) → k < n → isReached f n (f k) ≡ true
+unfolding isReached
 reached-at f zero k l = absurd (not-suc-le-zero l)
 reached-at f (suc n) zero l = rw (eq-eqb (f 0) (f 0) refl)
 reached-at f (suc n) (suc k) l = rw (reached-at (on f) n k (le-of-suc-le-suc l)) (or-true (eqb (f 0) (f (suc k))))
@@ -124,8 +124,8 @@ reached-at f (suc n) (suc k) l = rw (reached-at (on f) n k (le-of-suc-le-suc l))
     or-true true = refl
     or-true false = refl
 
-reached-not : (f : ℕ → ℕ) (n i : ℕ) → ((k : ℕ) → k < n → f k ≡ i → ⊥) → reached f n i ≡ false
-unfolding reached
+reached-not : (f : ℕ → ℕ) (n i : ℕ) → ((k : ℕ) → k < n → f k ≡ i → ⊥) → isReached f n i ≡ false
+unfolding isReached
 reached-not f zero i h = refl
 reached-not f (suc n) i h = rw (ne-eqb (f 0) i (h 0 (omega arith)), reached-not (on f) n i (λ k l. h (suc k) (omega arith)))
 
@@ -155,12 +155,12 @@ kept-last {a} (c ∷ cs) {f} r = go (decLt n a) (kept-last cs (round-on r))
     go : Dec (n < a) → kept (on f) (inks cs) ≡ lastOf (min n a) cs
         → pick (coloured (on f) (inks cs) (f 0)) (kept (on f) (inks cs)) (c ∷ kept (on f) (inks cs)) ≡ lastOf (min (suc n) a) (c ∷ cs)
     go (yes l) ih =
-        let e : reached (on f) n (f 0) ≡ false = reached-not (on f) n (f 0) (λ k m q. r .apart 0 (suc k) (omega arith) (omega arith) (sym q ∙ ap f (omega arith))) in
+        let e : isReached (on f) n (f 0) ≡ false = reached-not (on f) n (f 0) (λ k m q. r .apart 0 (suc k) (omega arith) (omega arith) (sym q ∙ ap f (omega arith))) in
         let z : suc n - min (suc n) a ≡ 0 = omega arith in
         let y : n - min n a ≡ 0 = omega arith in
         rw (coloured-inks (on f) cs (f 0), e, ih, z, y)
     go (no l) ih =
         let q : on f (a - 1) ≡ f 0 = ap f (omega (arith, r .some)) ∙ r .again 0 in
-        let e : reached (on f) n (f 0) ≡ true = ap (reached (on f) n) (sym q) ∙ reached-at (on f) n (a - 1) (omega (arith, r .some)) in
+        let e : isReached (on f) n (f 0) ≡ true = ap (isReached (on f) n) (sym q) ∙ reached-at (on f) n (a - 1) (omega (arith, r .some)) in
         let z : suc n - min (suc n) a ≡ suc (n - min n a) = omega arith in
         rw (coloured-inks (on f) cs (f 0), e, ih, z)

@@ -1,7 +1,10 @@
--- "Over any sequence of writes each colour's count follows from the list of colours named and the places not reached; nothing outside the
--- viewport changes; the cuts between writes do not matter." With the end-of-row of K1 the "list then has gaps: each place holds the last colour laid
--- on it, gaps aside, and the counts are taken of those places. T counts gaps for the beam and not for the number returned." What this says: the
--- record Balanced. proofs/Theorem.antt proves it.
+-- Demand 3: "The pixels balance. Take any surface and valid record, and any pixel writes, with RU between them or not, each call taking the surface, its
+-- size and the record as the last left them, and no viewport or beam set or stepped between. List the colours that the accepted writes name, in
+-- order; refused writes name none. Let T be their number and A the viewport's area. Afterwards each colour's count on the surface equals its count
+-- among the last T or A of the list, the smaller, plus its count on the places not reached. Nothing outside the viewport changes, and the same list cut
+-- into other writes, run or raster, leaves the same surface."
+-- K1: "Demand 3's list then has gaps: each place holds the last colour laid on it, gaps aside, and the counts are taken of those places. T counts gaps for
+-- the beam and not for the number returned." What both say: the record Balanced. proofs/Theorem.antt proves it.
 use Prim.Native.Nat.{ℕ, zero, suc, _+_, _-_, _*_, _/_, _%_, min}
 use mathlib.Core.Path.{_≡_}
 use mathlib.Core.Bool.{Bool, true, false, not, _||_}
@@ -13,8 +16,9 @@ use Rattle.refusals.specs.Answers.{pick, every}
 use Rattle.beam.specs.declared.Beam.{Beam}
 use Rattle.beam.specs.Validity.{inViewport}
 use Rattle.beam.specs.Settings.{withBits, setBits}
+use Rattle.pixel_refusals.specs.Tests.{endOfRow}
 use Rattle.pixels.specs.Marks.{Mark, ink, gap, place, laid, moved, colours}
-use Rattle.pixels.specs.Writes.{Told, endOfRow, rasterOf, drawRaster, rasterSurface, runsOf, drawRuns, runsSurface}
+use Rattle.pixels.specs.Writes.{WriteOutcome, rasterOf, drawRaster, rasterSurface, runsOf, drawRuns, runsSurface}
 
 -- ---- calls: RP, RL and RU, by the definitions that their promises name
 
@@ -28,28 +32,28 @@ pub record State : Type 0 where
   pub surface : List ℕ
 
 -- what RP and RL answer: 0 or the refusal's number, the number of pixels, and the record
-abbrev pub rasterTold : (w h : ℕ) → ℤ → List ℤ → State → Told
-rasterTold w h n chs st = drawRaster w h (st .beam) n chs (length (st .surface))
+abbrev pub rasterOutcome : (w h : ℕ) → ℤ → List ℤ → State → WriteOutcome
+rasterOutcome w h n chs st = drawRaster w h (st .beam) n chs (length (st .surface))
 
-abbrev pub runsTold : (w h : ℕ) → List ℤ → State → Told
-runsTold w h codes st = drawRuns w h (st .beam) codes (length (st .surface))
+abbrev pub runsOutcome : (w h : ℕ) → List ℤ → State → WriteOutcome
+runsOutcome w h codes st = drawRuns w h (st .beam) codes (length (st .surface))
 
 -- what a call leaves
 unfoldable pub after : (w h : ℕ) → Call → State → State
-after w h (raster n chs) st = record { beam = rasterTold w h n chs st .after; surface = rasterSurface w h (st .beam) n chs (st .surface) }
-after w h (runs codes) st = record { beam = runsTold w h codes st .after; surface = runsSurface w h (st .beam) codes (st .surface) }
+after w h (raster n chs) st = record { beam = rasterOutcome w h n chs st .after; surface = rasterSurface w h (st .beam) n chs (st .surface) }
+after w h (runs codes) st = record { beam = runsOutcome w h codes st .after; surface = runsSurface w h (st .beam) codes (st .surface) }
 after w h (bits first second third) st = record { beam = setBits w h (st .beam) first second third .after; surface = st .surface }
 
 -- the number of pixels that it returns
 unfoldable pub returned : (w h : ℕ) → Call → State → ℕ
-returned w h (raster n chs) st = rasterTold w h n chs st .count
-returned w h (runs codes) st = runsTold w h codes st .count
+returned w h (raster n chs) st = rasterOutcome w h n chs st .count
+returned w h (runs codes) st = runsOutcome w h codes st .count
 returned w h (bits first second third) st = 0
 
 -- the marks that it names: none where it is refused
 unfoldable pub named : (w h : ℕ) → Call → State → List Mark
-named w h (raster n chs) st = pick (eqb (rasterTold w h n chs st .number) 0) (rasterOf (st .beam) n chs) []
-named w h (runs codes) st = pick (eqb (runsTold w h codes st .number) 0) (runsOf (st .beam) codes) []
+named w h (raster n chs) st = pick (eqb (rasterOutcome w h n chs st .number) 0) (rasterOf (st .beam) n chs) []
+named w h (runs codes) st = pick (eqb (runsOutcome w h codes st .number) 0) (runsOf (st .beam) codes) []
 named w h (bits first second third) st = []
 
 -- calls one after another, each on what the last one left: the state in the end, and all marks that they name
@@ -85,9 +89,9 @@ abbrev pub track : (w h : ℕ) → Beam → ℕ → ℕ
 track w h beam k = place w h (steps k beam)
 
 -- whether i is one of the places f 0, f 1, .. f (n - 1)
-unfoldable pub reached : (f : ℕ → ℕ) → (n i : ℕ) → Bool
-reached f zero i = false
-reached f (suc n) i = eqb (f 0) i || reached (λ k. f (suc k)) n i
+unfoldable pub isReached : (f : ℕ → ℕ) → (n i : ℕ) → Bool
+isReached f zero i = false
+isReached f (suc n) i = eqb (f 0) i || isReached (λ k. f (suc k)) n i
 
 -- the bytes at the places where the test fails
 unfoldable pub elsewhere : (ℕ → Bool) → List ℕ → List ℕ
@@ -158,18 +162,19 @@ module _ (w h : ℕ) (st : State) (calls : List Call) where
     pub places : (i : ℕ) → getD (end .surface) i 0 ≡ lastLaid f ms i (getD (st .surface) i 0)
     -- "and the counts are taken of those places": the colours that stay, and the bytes that no colour is laid on
     pub counts : (c : ℕ) → count c (end .surface) ≡ count c (kept f ms) + count c (elsewhere (coloured f ms) (st .surface))
-    -- "nothing outside the viewport changes"
+    -- "Nothing outside the viewport changes"
     pub outside : (i : ℕ) → isOutside w h (st .beam) i ≡ true → getD (end .surface) i 0 ≡ getD (st .surface) i 0
     pub size : length (end .surface) ≡ length (st .surface)
-    -- "the cuts between writes do not matter": what is left is what laying the list leaves, and the beam is T steps on, the record's bits aside
+    -- what is left is what laying the list leaves, and the beam is T steps on, the record's bits aside
     pub surface-laid : end .surface ≡ laid w h ms (st .beam) (st .surface)
     pub beam-moved : bitsAside (end .beam) ≡ bitsAside (steps T (st .beam))
-    -- so other calls that name the same list from the same state leave the same
+    -- so "the same list cut into other writes, run or raster, leaves the same surface", and the same beam
     pub same-surface : (others : List Call) → namedBy w h others st ≡ ms → ran w h others st .surface ≡ end .surface
     pub same-beam : (others : List Call) → namedBy w h others st ≡ ms → bitsAside (ran w h others st .beam) ≡ bitsAside (end .beam)
     -- a write "returns its number of pixels": as many as the colours that it names, gaps aside, whatever state it meets
     pub numbers : (call : Call) (met : State) → returned w h call met ≡ length (colours (named w h call met))
-    -- where the marks are all colours, "each colour's count follows from the list of colours named and the places not reached"
-    pub without-gaps : (cs : List ℕ) → ms ≡ inks cs → (c : ℕ) → count c (end .surface) ≡ count c (lastOf (min T A) cs) + count c (elsewhere (reached f T) (st .surface))
+    -- where the marks are all colours, "each colour's count on the surface equals its count among the last T or A of the list, the smaller, plus its
+    -- count on the places not reached"
+    pub without-gaps : (cs : List ℕ) → ms ≡ inks cs → (c : ℕ) → count c (end .surface) ≡ count c (lastOf (min T A) cs) + count c (elsewhere (isReached f T) (st .surface))
     -- and they are where no call has a 96
     pub no-gaps : every noRowEnd calls ≡ true → ms ≡ inks (colours ms)

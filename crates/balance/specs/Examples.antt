@@ -6,9 +6,10 @@ use lib.IntN.{ℤ, pos, negsuc}
 use Rattle.refusals.specs.Answers.{every}
 use Rattle.beam.specs.Validity.{isSize, isBits, onSurface, inViewport, isValid}
 use Rattle.beam.specs.Settings.{settled, bitsFrom, setBits, stepped}
+use Rattle.pixel_refusals.specs.Tests.{isSurface, pixelCharacters, rasterNumbers, rasterCharacters, runNumbers, writeRefusal, rasterRefusal, runRefusal}
 use Rattle.pixels.specs.Marks.{Mark, ink, gap, place, laid, moved, rowEnd}
-use Rattle.pixels.specs.Writes.{pixels, characterMarks, leftAfter, rasterMarks, runMarks, runTotal, isSurface, pixelCharacters, rasterNumbers, rasterCharacters, runNumbers, writeRefusal, rasterRefusal, runRefusal, written, surfaceAfter, drawRaster, rasterSurface, drawRuns, runsSurface}
-use Rattle.balance.specs.Balance.{Call, raster, runs, bits, State, rasterTold, runsTold, after, returned, named, ran, namedBy, count, track, elsewhere, coloured, kept, inks}
+use Rattle.pixels.specs.Writes.{pixels, characterMarks, leftAfter, rasterMarks, runMarks, runTotal, written, surfaceAfter, drawRaster, rasterSurface, drawRuns, runsSurface}
+use Rattle.balance.specs.Balance.{Call, raster, runs, bits, State, rasterOutcome, runsOutcome, after, returned, named, ran, namedBy, count, track, elsewhere, coloured, kept, inks}
 
 -- 4 by 3 bytes; the viewport is columns 1 and 2 of the two lower rows, and the beam stands at its upper right
 abbrev pub start : State
@@ -19,8 +20,8 @@ start = record {
 
 -- 0 or the number of the call's refusal
 unfoldable pub refusal : (w h : ℕ) → Call → State → ℕ
-refusal w h (raster n chs) st = rasterTold w h n chs st .number
-refusal w h (runs codes) st = runsTold w h codes st .number
+refusal w h (raster n chs) st = rasterOutcome w h n chs st .number
+refusal w h (runs codes) st = runsOutcome w h codes st .number
 refusal w h (bits first second third) st = setBits w h (st .beam) first second third .number
 
 -- what is asked of each call, on what the last one left
@@ -66,8 +67,8 @@ rp n chs = raster (pos n) (map pos chs)
 abbrev rl : ℤ → Call
 rl code = runs (code ∷ [])
 
-abbrev pub table : List Example
-table =
+abbrev pub workedExamples : List Example
+workedExamples =
     -- three colours: RP is refused before RU, and RL with a code below 0
     record {
       calls = rp 2 (45 ∷ []) ∷ ru (pos 3) ∷ rp 2 (45 ∷ []) ∷ rl (negsuc 0) ∷ rl (pos 11) ∷ [];
@@ -153,7 +154,7 @@ abbrev worked-of : Example → Example
 worked-of e = worked (e .calls) (namedBy 4 3 (e .calls) start) (ran 4 3 (e .calls) start)
 
 -- the one claim
-pub all-as-worked : map worked-of table ≡ table
+pub all-as-worked : map worked-of workedExamples ≡ workedExamples
 unfolding isSize isBits onSurface inViewport isValid settled bitsFrom setBits stepped place laid moved rowEnd pixels characterMarks leftAfter
     rasterMarks runMarks runTotal isSurface pixelCharacters rasterNumbers rasterCharacters runNumbers writeRefusal rasterRefusal runRefusal every
     written surfaceAfter drawRaster rasterSurface drawRuns runsSurface after returned named ran namedBy refusal each count coloured kept elsewhere

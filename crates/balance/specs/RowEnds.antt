@@ -10,9 +10,10 @@ use lib.IntN.{pos}
 use Rattle.refusals.specs.Answers.{every}
 use Rattle.beam.specs.Validity.{isSize, isBits, onSurface, inViewport, isValid}
 use Rattle.beam.specs.Settings.{freshBeam, withBits, stepped}
+use Rattle.pixel_refusals.specs.Tests.{needed, isSurface, pixelCharacters, rasterNumbers, rasterCharacters, writeRefusal, rasterRefusal}
 use Rattle.pixels.specs.Marks.{place, laid, moved, rowEnd}
-use Rattle.pixels.specs.Writes.{pixels, characterMarks, leftAfter, rasterMarks, needed, isSurface, pixelCharacters, rasterNumbers, rasterCharacters, writeRefusal, rasterRefusal, written, surfaceAfter, drawRaster, rasterSurface}
-use Rattle.balance.specs.Balance.{Call, raster, State, rasterTold, after, returned, ran}
+use Rattle.pixels.specs.Writes.{pixels, characterMarks, leftAfter, rasterMarks, written, surfaceAfter, drawRaster, rasterSurface}
+use Rattle.balance.specs.Balance.{Call, raster, State, rasterOutcome, after, returned, ran}
 
 abbrev pub pattern : State
 pattern = record { beam = withBits 6 (freshBeam 8 9); surface = replicate 72 9 }
@@ -40,7 +41,7 @@ worked e before behind = record {
   entries = length (e .characters);
   others = pixelCharacters (e .characters);
   needs = needed 6 (e .n);
-  number = rasterTold 8 9 (pos (e .n)) (map pos (e .characters)) before .number;
+  number = rasterOutcome 8 9 (pos (e .n)) (map pos (e .characters)) before .number;
   pixels = returned 8 9 (call-of e) before;
   x = behind .beam .x;
   y = behind .beam .y;

@@ -1,8 +1,7 @@
 -- The tests of a record and the calls that set it, by what their parts gave.
-use Prim.Native.Nat.{ℕ, _≤_, _<_, min, max}
+use Prim.Native.Nat.{ℕ, _≤_, min, max}
 use mathlib.Core.Path.{_≡_, refl, sym, _∙_, ap}
 use mathlib.Core.Bool.{Bool, true, false, not, _&&_}
-use native.Mathlib.Omega.{arith}
 use borrow.Author.Tests.{not-true, not-false, eq-eqb, ne-eqb, leb-true}
 use lib.Dec.{leb}
 use lib.IntN.{ℤ, pos, negsuc, natAbs}
@@ -14,8 +13,7 @@ use Rattle.refusals.proofs.Cases.{zero-one, and-left, and-right}
 use Rattle.memory.specs.declared.Point.{Point}
 use Rattle.signs.specs.Signs.{isNegative}
 use Rattle.beam.specs.declared.Beam.{Beam}
-use Rattle.beam.specs.declared.Setting.{Setting}
-use Rattle.beam.specs.declared.Setting.the-variants.{Set, NotSet}
+use Rattle.beam.specs.declared.Setting.the-variants.{Set, Refused}
 use Rattle.beam.specs.Validity.{isSize, isBits, onSurface, inViewport, isValid}
 use Rattle.beam.specs.Settings.{settingOf, settled, Settled, freshBeam, noBeam, makeFresh, bitsFrom, withBits, setBits, cornersOn, framed, setViewport, beamAt, setBeam, stepped, makeStep}
 
@@ -50,17 +48,17 @@ module _ (w h : ℕ) (beam : Beam) {s : Bool} (es : s ≡ onSurface w h (beam .r
 -- ---- 11, 8, 8
 
 module _ (w h : ℕ) (old : Beam) (allowed : Bool) (new : Beam) {s : Bool} (es : s ≡ isSize w h) where
-  pub wrong-size : not s ≡ true → settingOf (NotSet SurfaceSize old) ≡ settled w h old allowed new
+  pub wrong-size : not s ≡ true → settingOf (Refused SurfaceSize old) ≡ settled w h old allowed new
   unfolding settingOf settled
   wrong-size t = rw (no-of es t)
 
   module _ (t : not s ≡ false) {v : Bool} (ev : v ≡ isValid w h old) where
-    pub wrong-record : not v ≡ true → settingOf (NotSet NotValid old) ≡ settled w h old allowed new
+    pub wrong-record : not v ≡ true → settingOf (Refused NotValid old) ≡ settled w h old allowed new
     unfolding settingOf settled
     wrong-record u = rw (yes-of es t, no-of ev u)
 
     module _ (u : not v ≡ false) where
-      pub wrong-values : allowed ≡ false → settingOf (NotSet NotValid old) ≡ settled w h old allowed new
+      pub wrong-values : allowed ≡ false → settingOf (Refused NotValid old) ≡ settled w h old allowed new
       unfolding settingOf settled
       wrong-values e = rw (yes-of es t, yes-of ev u, e)
 
@@ -86,7 +84,7 @@ module _ (w h : ℕ) {s : Bool} (es : s ≡ isSize w h) where
   pub some-rows : not s ≡ false → 1 ≤ h
   some-rows t = size-h w h (yes-of es t)
 
-  pub not-fresh : not s ≡ true → settingOf (NotSet SurfaceSize noBeam) ≡ makeFresh w h
+  pub not-fresh : not s ≡ true → settingOf (Refused SurfaceSize noBeam) ≡ makeFresh w h
   unfolding settingOf makeFresh
   not-fresh t = rw (no-of es t)
 

@@ -9,7 +9,7 @@ use Rattle.refusals.specs.Answers.{pick, demand}
 use Rattle.memory.specs.declared.Point.{Point}
 use Rattle.beam.specs.declared.Beam.{Beam}
 use Rattle.beam.specs.declared.Setting.{Setting}
-use Rattle.beam.specs.declared.Setting.the-variants.{Set, NotSet}
+use Rattle.beam.specs.declared.Setting.the-variants.{Set, Refused}
 use Rattle.beam.specs.Validity.{isSize, isBits, onSurface, inViewport, isValid}
 
 -- what a call on the record gives back: 0 or the refusal's number, and a record
@@ -20,7 +20,7 @@ pub record Settled : Type 0 where
 -- what the answer says
 unfoldable pub settingOf : Setting → Settled
 settingOf (Set r) = record { number = 0; after = r }
-settingOf (NotSet e r) = record { number = numberOf e; after = r }
+settingOf (Refused e r) = record { number = numberOf e; after = r }
 
 -- the new record; where the call is refused, the record as it came
 abbrev pub unlessRefused : ℕ → (new old : Beam) → Settled

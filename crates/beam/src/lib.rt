@@ -24,7 +24,7 @@ pub enum Setting {
     // the record as it now is
     Set(Beam),
     // the refusal, and the record as it came
-    NotSet(Refusal, Beam),
+    Refused(Refusal, Beam),
 }
 
 // ---- what a record must be
@@ -109,15 +109,15 @@ fn settle(w: usize, h: usize, beam: Beam, allowed: bool, new: Beam) -> Setting
     ensures { λ r. ⌜ settingOf r ≡ settled w h beam allowed new ⌝ }
 {
     if !is_size(w, h) {
-        return Setting::NotSet(Refusal::SurfaceSize, beam);
+        return Setting::Refused(Refusal::SurfaceSize, beam);
     }
     if !is_valid(w, h, beam) {
-        return Setting::NotSet(Refusal::NotValid, beam);
+        return Setting::Refused(Refusal::NotValid, beam);
     }
     if allowed {
         return Setting::Set(new);
     }
-    Setting::NotSet(Refusal::NotValid, beam)
+    Setting::Refused(Refusal::NotValid, beam)
 }
 
 // "Fresh: the whole surface, beam at the upper left." Where it is refused, all its fields are 0.
@@ -134,7 +134,7 @@ pub fn fresh(w: usize, h: usize) -> Setting
             x: 0,
             y: 0,
         };
-        return Setting::NotSet(Refusal::SurfaceSize, none);
+        return Setting::Refused(Refusal::SurfaceSize, none);
     }
     let right = w - 1;
     let top = h - 1;

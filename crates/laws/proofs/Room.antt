@@ -17,7 +17,8 @@ use Rattle.wire.specs.Taking.{byteAt}
 use Rattle.wire.specs.Taking.{pairAt as escPairAt}
 use Rattle.signs.specs.Signs.{isNegative}
 use Rattle.numbers.specs.Integers.{integerFrom, integerAt, inRange, limit}
-use Rattle.numbers.specs.Counts.{countIn, countAt, mostEntries}
+use Rattle.ranges.specs.Ranges.{mostEntries}
+use Rattle.numbers.specs.Counts.{countIn, countAt}
 use Rattle.points.specs.declared.PointBytes.{PointBytes}
 use Rattle.points.specs.Layout.{bytesOf}
 use Rattle.points.specs.Reading.{byKind, notAllowed, endsAt, loX, lastAt, afterLoY, afterUpper, afterHiY, pointFrom, pointAt}

@@ -44,7 +44,7 @@ fn put_characters(y: usize, list: &mut [i32]) {
 fn beam_of(setting: Setting) -> Beam {
     match setting {
         Setting::Set(beam) => beam,
-        Setting::NotSet(_, beam) => beam,
+        Setting::Refused(_, beam) => beam,
     }
 }
 
@@ -53,7 +53,7 @@ fn draw_row(y: usize, beam: Beam, surface: &mut [u8]) -> Beam {
     put_characters(y, &mut list);
     match pixels::draw_raster(surface, WIDTH, HEIGHT, beam, 480, &list) {
         Drawing::Drawn(_, behind) => behind,
-        Drawing::NotDrawn(_, same) => same,
+        Drawing::Refused(_, same) => same,
     }
 }
 

@@ -1,7 +1,7 @@
 -- From what the unit's calls answer to the numbers of the exported ones. A signed argument comes back from a callee's contract as the machine
 -- reads it.
 use Prim.Native.Nat.{ℕ}
-use mathlib.Core.Path.{_≡_, _∙_, ap}
+use mathlib.Core.Path.{_≡_, refl, _∙_}
 use mathlib.Core.List.{List}
 use lib.IntN.{ℤ}
 use mir.Syntax.{w32}
@@ -12,76 +12,38 @@ use Rattle.refusals.specs.Refusals.{numberOf}
 use Rattle.memory.specs.declared.Point.{Point}
 use Rattle.beam.specs.declared.Beam.{Beam}
 use Rattle.beam.specs.declared.Setting.{Setting}
-use Rattle.beam.specs.declared.Setting.the-variants.{Set, NotSet}
+use Rattle.beam.specs.declared.Setting.the-variants as settings
 use Rattle.beam.specs.Settings.{Settled, settingOf, setBits, setViewport, setBeam, makeStep}
 use Rattle.pixels.specs.declared.Drawing.{Drawing}
-use Rattle.pixels.specs.declared.Drawing.the-variants.{Drawn, NotDrawn}
-use Rattle.pixels.specs.Writes.{Told, drawingOf, drawRaster, rasterSurface, drawRuns, runsSurface}
+use Rattle.pixels.specs.declared.Drawing.the-variants as drawings
+use Rattle.pixels.specs.Writes.{WriteOutcome, drawingOf, drawRaster, rasterSurface, drawRuns, runsSurface}
 use Rattle.pixel_calls.specs.Fields.{beamIn, fieldsOf}
+use Rattle.pixel_calls.specs.Promises.{HandsSettled, HandsWritten}
 
-module _ (s : Setting) {d : Settled} (es : settingOf s ≡ d) where
-  pub set-number-so : {n : ℕ} → n ≡ settingOf s .number → n ≡ d .number
-  set-number-so e = e ∙ ap (λ (q : Settled). q .number) es
+pub settled-so : (s : Setting) {d : Settled} {n : ℕ} {l : List ℕ} → settingOf s ≡ d → HandsSettled (settingOf s) n l → HandsSettled d n l
+settled-so s e h = rw e at h
 
-  pub set-fields-so : {l : List ℕ} → l ≡ fieldsOf (settingOf s .after) → l ≡ fieldsOf (d .after)
-  set-fields-so e = e ∙ ap (λ (q : Settled). fieldsOf (q .after)) es
-
-module _ (s : Drawing) {d : Told} (es : drawingOf s ≡ d) where
-  pub drawn-number-so : {n : ℕ} → n ≡ drawingOf s .number → n ≡ d .number
-  drawn-number-so e = e ∙ ap (λ (q : Told). q .number) es
-
-  pub drawn-count-so : {n : ℕ} → n ≡ drawingOf s .count → n ≡ d .count
-  drawn-count-so e = e ∙ ap (λ (q : Told). q .count) es
-
-  pub drawn-fields-so : {l : List ℕ} → l ≡ fieldsOf (drawingOf s .after) → l ≡ fieldsOf (d .after)
-  drawn-fields-so e = e ∙ ap (λ (q : Told). fieldsOf (q .after)) es
+pub written-so : (s : Drawing) {d : WriteOutcome} {n k : ℕ} {l : List ℕ} → drawingOf s ≡ d → HandsWritten (drawingOf s) n k l → HandsWritten d n k l
+written-so s e h = rw e at h
 
 -- ---- by the answer's case
 
-module _ {s : Setting} {b : Beam} where
-  pub set-number : s ≡ Set b → 0 ≡ settingOf s .number
+module _ {b : Beam} {l : List ℕ} (el : l ≡ fieldsOf b) where
+  pub when-set : {s : Setting} → s ≡ settings.Set b → HandsSettled (settingOf s) 0 l
   unfolding settingOf
-  set-number e = rw e
+  when-set e = rw e (record { same-number = refl; same-record = el })
 
-  pub set-fields : s ≡ Set b → {l : List ℕ} → l ≡ fieldsOf b → l ≡ fieldsOf (settingOf s .after)
+  pub when-not-set : {s : Setting} {f : Refusal} {n : ℕ} → s ≡ settings.Refused f b → n ≡ numberOf f → HandsSettled (settingOf s) n l
   unfolding settingOf
-  set-fields e j = rw e j
+  when-not-set e en = rw e (record { same-number = en; same-record = el })
 
-  module _ {f : Refusal} (e : s ≡ NotSet f b) where
-    pub not-set-number : {n : ℕ} → n ≡ numberOf f → n ≡ settingOf s .number
-    unfolding settingOf
-    not-set-number j = rw e j
+  pub when-drawn : {s : Drawing} {k : ℕ} → s ≡ drawings.Drawn k b → HandsWritten (drawingOf s) 0 k l
+  unfolding drawingOf
+  when-drawn e = rw e (record { same-number = refl; same-count = refl; same-record = el })
 
-    pub not-set-fields : {l : List ℕ} → l ≡ fieldsOf b → l ≡ fieldsOf (settingOf s .after)
-    unfolding settingOf
-    not-set-fields j = rw e j
-
-module _ {s : Drawing} {b : Beam} where
-  module _ {k : ℕ} (e : s ≡ Drawn k b) where
-    pub drawn-number : 0 ≡ drawingOf s .number
-    unfolding drawingOf
-    drawn-number = rw e
-
-    pub drawn-count : k ≡ drawingOf s .count
-    unfolding drawingOf
-    drawn-count = rw e
-
-    pub drawn-fields : {l : List ℕ} → l ≡ fieldsOf b → l ≡ fieldsOf (drawingOf s .after)
-    unfolding drawingOf
-    drawn-fields j = rw e j
-
-  module _ {f : Refusal} (e : s ≡ NotDrawn f b) where
-    pub not-drawn-number : {n : ℕ} → n ≡ numberOf f → n ≡ drawingOf s .number
-    unfolding drawingOf
-    not-drawn-number j = rw e j
-
-    pub not-drawn-count : 0 ≡ drawingOf s .count
-    unfolding drawingOf
-    not-drawn-count = rw e
-
-    pub not-drawn-fields : {l : List ℕ} → l ≡ fieldsOf b → l ≡ fieldsOf (drawingOf s .after)
-    unfolding drawingOf
-    not-drawn-fields j = rw e j
+  pub when-not-drawn : {s : Drawing} {f : Refusal} {n : ℕ} → s ≡ drawings.Refused f b → n ≡ numberOf f → HandsWritten (drawingOf s) n 0 l
+  unfolding drawingOf
+  when-not-drawn e en = rw e (record { same-number = en; same-count = refl; same-record = el })
 
 -- ---- what is handed in
 
@@ -100,16 +62,14 @@ module _ (w h : ℕ) (l : List ℕ) {b : Beam} (eb : b ≡ beamIn l) {q : Settle
   step-given e = e ∙ rw eb
 
 module _ (w h : ℕ) (l : List ℕ) {b : Beam} (eb : b ≡ beamIn l) where
-  pub raster-given : (n : ℤ) → SFits w32 n → (chs : List ℤ) (size : ℕ) {q : Told} → q ≡ drawRaster w h b (toZ w32 (ofZ w32 n)) chs size → q ≡ drawRaster w h (beamIn l) n chs size
+  pub raster-given : (n : ℤ) → SFits w32 n → (chs : List ℤ) (size : ℕ) {q : WriteOutcome} → q ≡ drawRaster w h b (toZ w32 (ofZ w32 n)) chs size → q ≡ drawRaster w h (beamIn l) n chs size
   raster-given n f chs size e = e ∙ rw (eb, toZ-ofZ f)
 
   pub raster-laid : (n : ℤ) → SFits w32 n → (chs : List ℤ) (s : List ℕ) {o : List ℕ} → o ≡ rasterSurface w h b (toZ w32 (ofZ w32 n)) chs s → o ≡ rasterSurface w h (beamIn l) n chs s
   raster-laid n f chs s e = e ∙ rw (eb, toZ-ofZ f)
 
-  pub runs-given : (codes : List ℤ) (size : ℕ) {q : Told} → q ≡ drawRuns w h b codes size → q ≡ drawRuns w h (beamIn l) codes size
+  pub runs-given : (codes : List ℤ) (size : ℕ) {q : WriteOutcome} → q ≡ drawRuns w h b codes size → q ≡ drawRuns w h (beamIn l) codes size
   runs-given codes size e = e ∙ rw eb
 
   pub runs-laid : (codes : List ℤ) (s : List ℕ) {o : List ℕ} → o ≡ runsSurface w h b codes s → o ≡ runsSurface w h (beamIn l) codes s
   runs-laid codes s e = e ∙ rw eb
-
-pub ruleset set = (set-number-so, set-fields-so)

@@ -5,6 +5,7 @@ ghost use Rattle.coordinates.specs.Coordinates.{pointOf};
 ghost use Rattle.beam.specs.Settings.{settingOf, makeFresh, setBits, setViewport, setBeam, makeStep};
 ghost use Rattle.pixels.specs.Writes.{drawingOf, drawRaster, rasterSurface, drawRuns, runsSurface};
 ghost use Rattle.pixel_calls.specs.Fields.{beamIn, fieldsOf};
+ghost use Rattle.pixel_calls.specs.Promises.{HandsSettled, HandsWritten};
 use beam::Beam;
 use beam::Setting;
 use pixels::Drawing;
@@ -46,34 +47,74 @@ fn fields_of(beam: Beam) -> [usize; 7]
     ]
 }
 
-// ---- setting it
+// ---- what an answer hands back
 
-fn set_number(setting: Setting) -> u8
-    ensures { λ r. ⌜ r ≡ settingOf setting .number ⌝ }
+// 0 or the refusal's number, the number of pixels, and the record.
+struct Handed {
+    number: u8,
+    count: usize,
+    fields: [usize; 7],
+}
+
+fn of_setting(setting: Setting) -> Handed
+    ensures { λ r. ⌜ HandsSettled (settingOf setting) (r .number) (r .fields) ⌝ }
 {
     match setting {
-        Setting::Set(_) => 0,
-        Setting::NotSet(e, _) => refusals::number(e),
+        Setting::Set(beam) => {
+            let fields = fields_of(beam);
+            Handed {
+                number: 0,
+                count: 0,
+                fields: fields,
+            }
+        }
+        Setting::Refused(e, beam) => {
+            let number = refusals::number(e);
+            let fields = fields_of(beam);
+            Handed {
+                number: number,
+                count: 0,
+                fields: fields,
+            }
+        }
     }
 }
 
-fn set_fields(setting: Setting) -> [usize; 7]
-    ensures { λ r. ⌜ r ≡ fieldsOf (settingOf setting .after) ⌝ }
+fn of_drawing(drawing: Drawing) -> Handed
+    ensures { λ r. ⌜ HandsWritten (drawingOf drawing) (r .number) (r .count) (r .fields) ⌝ }
 {
-    match setting {
-        Setting::Set(beam) => fields_of(beam),
-        Setting::NotSet(_, beam) => fields_of(beam),
+    match drawing {
+        Drawing::Drawn(n, beam) => {
+            let fields = fields_of(beam);
+            Handed {
+                number: 0,
+                count: n,
+                fields: fields,
+            }
+        }
+        Drawing::Refused(e, beam) => {
+            let number = refusals::number(e);
+            let fields = fields_of(beam);
+            Handed {
+                number: number,
+                count: 0,
+                fields: fields,
+            }
+        }
     }
 }
+
+// ---- setting the record
 
 #[no_mangle]
 pub extern "C" fn ardh_fresh(w: usize, h: usize, fields: &mut [usize; 7]) -> u8
-    ensures { λ r. ⌜ r ≡ makeFresh w h .number ⌝ }
-    ensures { λ _. ⌜ now (fields .exit) ≡ fieldsOf (makeFresh w h .after) ⌝ }
+    ensures { λ r. ⌜ HandsSettled (makeFresh w h) r (now (fields .exit)) ⌝ }
 {
     let setting = beam::fresh(w, h);
-    *fields = set_fields(setting);
-    set_number(setting)
+    let handed = of_setting(setting);
+    let back = handed.fields;
+    *fields = back;
+    handed.number
 }
 
 // RU
@@ -86,12 +127,13 @@ pub extern "C" fn ardh_set_bits(
     second: i32,
     third: i32,
 ) -> u8
-    ensures { λ r. ⌜ r ≡ setBits w h (beamIn (now (fields .entry))) first second third .number ⌝ }
-    ensures { λ _. ⌜ now (fields .exit) ≡ fieldsOf (setBits w h (beamIn (now (fields .entry))) first second third .after) ⌝ }
+    ensures { λ r. ⌜ HandsSettled (setBits w h (beamIn (now (fields .entry))) first second third) r (now (fields .exit)) ⌝ }
 {
     let setting = beam::set_bits(w, h, beam_in(fields), first, second, third);
-    *fields = set_fields(setting);
-    set_number(setting)
+    let handed = of_setting(setting);
+    let back = handed.fields;
+    *fields = back;
+    handed.number
 }
 
 // RS
@@ -105,67 +147,43 @@ pub extern "C" fn ardh_set_viewport(
     x2: i32,
     y2: i32,
 ) -> u8
-    ensures { λ r. ⌜ r ≡ setViewport w h (beamIn (now (fields .entry))) (pointOf x y) (pointOf x2 y2) .number ⌝ }
-    ensures { λ _. ⌜ now (fields .exit) ≡ fieldsOf (setViewport w h (beamIn (now (fields .entry))) (pointOf x y) (pointOf x2 y2) .after) ⌝ }
+    ensures { λ r. ⌜ HandsSettled (setViewport w h (beamIn (now (fields .entry))) (pointOf x y) (pointOf x2 y2)) r (now (fields .exit)) ⌝ }
 {
     let from = coordinates::point_of(x, y);
     let to = coordinates::point_of(x2, y2);
     let setting = beam::set_viewport(w, h, beam_in(fields), from, to);
-    *fields = set_fields(setting);
-    set_number(setting)
+    let handed = of_setting(setting);
+    let back = handed.fields;
+    *fields = back;
+    handed.number
 }
 
 // RH
 #[no_mangle]
 pub extern "C" fn ardh_set_beam(w: usize, h: usize, fields: &mut [usize; 7], x: i32, y: i32) -> u8
-    ensures { λ r. ⌜ r ≡ setBeam w h (beamIn (now (fields .entry))) (pointOf x y) .number ⌝ }
-    ensures { λ _. ⌜ now (fields .exit) ≡ fieldsOf (setBeam w h (beamIn (now (fields .entry))) (pointOf x y) .after) ⌝ }
+    ensures { λ r. ⌜ HandsSettled (setBeam w h (beamIn (now (fields .entry))) (pointOf x y)) r (now (fields .exit)) ⌝ }
 {
     let to = coordinates::point_of(x, y);
     let setting = beam::set_beam(w, h, beam_in(fields), to);
-    *fields = set_fields(setting);
-    set_number(setting)
+    let handed = of_setting(setting);
+    let back = handed.fields;
+    *fields = back;
+    handed.number
 }
 
 // One step of the beam.
 #[no_mangle]
 pub extern "C" fn ardh_step(w: usize, h: usize, fields: &mut [usize; 7]) -> u8
-    ensures { λ r. ⌜ r ≡ makeStep w h (beamIn (now (fields .entry))) .number ⌝ }
-    ensures { λ _. ⌜ now (fields .exit) ≡ fieldsOf (makeStep w h (beamIn (now (fields .entry))) .after) ⌝ }
+    ensures { λ r. ⌜ HandsSettled (makeStep w h (beamIn (now (fields .entry)))) r (now (fields .exit)) ⌝ }
 {
     let setting = beam::step_on(w, h, beam_in(fields));
-    *fields = set_fields(setting);
-    set_number(setting)
+    let handed = of_setting(setting);
+    let back = handed.fields;
+    *fields = back;
+    handed.number
 }
 
 // ---- the two writes
-
-fn drawn_number(drawing: Drawing) -> u8
-    ensures { λ r. ⌜ r ≡ drawingOf drawing .number ⌝ }
-{
-    match drawing {
-        Drawing::Drawn(_, _) => 0,
-        Drawing::NotDrawn(e, _) => refusals::number(e),
-    }
-}
-
-fn drawn_count(drawing: Drawing) -> usize
-    ensures { λ r. ⌜ r ≡ drawingOf drawing .count ⌝ }
-{
-    match drawing {
-        Drawing::Drawn(n, _) => n,
-        Drawing::NotDrawn(_, _) => 0,
-    }
-}
-
-fn drawn_fields(drawing: Drawing) -> [usize; 7]
-    ensures { λ r. ⌜ r ≡ fieldsOf (drawingOf drawing .after) ⌝ }
-{
-    match drawing {
-        Drawing::Drawn(_, beam) => fields_of(beam),
-        Drawing::NotDrawn(_, beam) => fields_of(beam),
-    }
-}
 
 // RP
 #[no_mangle]
@@ -178,15 +196,15 @@ pub extern "C" fn ardh_draw_raster(
     characters: &[i32],
     count: &mut usize,
 ) -> u8
-    ensures { λ r. ⌜ r ≡ drawRaster w h (beamIn (now (fields .entry))) n (now (characters .entry)) (length (now (surface .entry))) .number ⌝ }
-    ensures { λ _. ⌜ now (count .exit) ≡ drawRaster w h (beamIn (now (fields .entry))) n (now (characters .entry)) (length (now (surface .entry))) .count ⌝ }
-    ensures { λ _. ⌜ now (fields .exit) ≡ fieldsOf (drawRaster w h (beamIn (now (fields .entry))) n (now (characters .entry)) (length (now (surface .entry))) .after) ⌝ }
+    ensures { λ r. ⌜ HandsWritten (drawRaster w h (beamIn (now (fields .entry))) n (now (characters .entry)) (length (now (surface .entry)))) r (now (count .exit)) (now (fields .exit)) ⌝ }
     ensures { λ _. ⌜ now (surface .exit) ≡ rasterSurface w h (beamIn (now (fields .entry))) n (now (characters .entry)) (now (surface .entry)) ⌝ }
 {
     let drawing = pixels::draw_raster(surface, w, h, beam_in(fields), n, characters);
-    *fields = drawn_fields(drawing);
-    *count = drawn_count(drawing);
-    drawn_number(drawing)
+    let handed = of_drawing(drawing);
+    let back = handed.fields;
+    *fields = back;
+    *count = handed.count;
+    handed.number
 }
 
 // RL
@@ -199,13 +217,13 @@ pub extern "C" fn ardh_draw_runs(
     codes: &[i32],
     count: &mut usize,
 ) -> u8
-    ensures { λ r. ⌜ r ≡ drawRuns w h (beamIn (now (fields .entry))) (now (codes .entry)) (length (now (surface .entry))) .number ⌝ }
-    ensures { λ _. ⌜ now (count .exit) ≡ drawRuns w h (beamIn (now (fields .entry))) (now (codes .entry)) (length (now (surface .entry))) .count ⌝ }
-    ensures { λ _. ⌜ now (fields .exit) ≡ fieldsOf (drawRuns w h (beamIn (now (fields .entry))) (now (codes .entry)) (length (now (surface .entry))) .after) ⌝ }
+    ensures { λ r. ⌜ HandsWritten (drawRuns w h (beamIn (now (fields .entry))) (now (codes .entry)) (length (now (surface .entry)))) r (now (count .exit)) (now (fields .exit)) ⌝ }
     ensures { λ _. ⌜ now (surface .exit) ≡ runsSurface w h (beamIn (now (fields .entry))) (now (codes .entry)) (now (surface .entry)) ⌝ }
 {
     let drawing = pixels::draw_runs(surface, w, h, beam_in(fields), codes);
-    *fields = drawn_fields(drawing);
-    *count = drawn_count(drawing);
-    drawn_number(drawing)
+    let handed = of_drawing(drawing);
+    let back = handed.fields;
+    *fields = back;
+    *count = handed.count;
+    handed.number
 }

@@ -6,16 +6,14 @@ use native.Mathlib.Nat.{not-suc-le-zero, mul-suc, mul-le-mul-left, min-le-right,
 use native.Mathlib.Numerals.{add-one}
 use native.Mathlib.Omega.{arith}
 use borrow.Author.Tests.{eq-eqb, ne-eqb}
-use lib.Dec.{eqb}
-use lib.ListN.{length, getD, set, drop, drop-of-length-le}
+use lib.ListN.{length, getD, drop, drop-of-length-le}
 use lib.Seq.{drop-cons}
-use Rattle.refusals.specs.Answers.{pick}
 use Rattle.beam.specs.declared.Beam.{Beam}
-use Rattle.beam.specs.Settings.{stepped}
-use Rattle.pixels.specs.Marks.{Mark, ink, place, laid, moved, rowEnd}
-use Rattle.pixels.specs.Writes.{perCharacter, pixels, endOfRow, characterMarks, leftAfter, rasterMarks, pixelCharacters, run, runMarks, runTotal}
-use Rattle.pixels.specs.Standing.{Ready}
-use Rattle.pixels.proofs.Laying.{laid-append, laid-length, moved-append, moved-valid, moved-bits}
+use Rattle.pixel_refusals.specs.Tests.{perCharacter, endOfRow}
+use Rattle.pixels.specs.Marks.{Mark, ink, laid, moved, rowEnd}
+use Rattle.pixels.specs.Writes.{pixels, characterMarks, leftAfter, rasterMarks, run, runMarks, runTotal}
+use Rattle.pixels.specs.Standing.{Ready, MarksLaid}
+use Rattle.pixels.proofs.Laying.{laid-append, laid-length, moved-append, moved-inside, moved-bits}
 use Rattle.pixels.proofs.Rows.{row-kept}
 
 -- the marks ms that are left, from the record and the surface of here, come to the same end as all marks from those of the start
@@ -31,26 +29,21 @@ going ms beam s r = record { ready = r; long = refl; depth = refl; surface = ref
 
 module _ {w h : ℕ} {ms₀ : List Mark} {beam₀ : Beam} {s₀ : List ℕ} {ms : List Mark} {beam : Beam} {s : List ℕ} (g : Going w h ms₀ beam₀ s₀ ms beam s) where
   -- the marks xs are laid, and ys are left
-  pub going-on : (xs ys : List Mark) {next : Beam} {t : List ℕ} → ms ≡ xs ++ ys → next ≡ moved xs beam → t ≡ laid w h xs beam s → Going w h ms₀ beam₀ s₀ ys next t
-  going-on xs ys e en et =
-      let l = ap length et ∙ laid-length w h xs beam s in
+  pub going-on : (xs ys : List Mark) {next : Beam} {t : List ℕ} → ms ≡ xs ++ ys → MarksLaid w h xs beam s next t → Going w h ms₀ beam₀ s₀ ys next t
+  going-on xs ys e m =
+      let l = ap length (m .surface) ∙ laid-length w h xs beam s in
       record {
-        ready = record { valid = rw en (moved-valid xs (g .ready .valid)); whole = l ∙ g .ready .whole; narrow = g .ready .narrow; short = g .ready .short };
+        ready = record { inside = rw (m .behind) (moved-inside xs (g .ready .inside)); whole = l ∙ g .ready .whole; narrow = g .ready .narrow; short = g .ready .short };
         long = l ∙ g .long;
-        depth = ap (λ (b : Beam). b .bits) en ∙ moved-bits xs beam ∙ g .depth;
-        surface = rw (en, et, ← laid-append w h xs ys beam s, ← e) (g .surface);
-        end = rw (en, ← moved-append xs ys beam, ← e) (g .end);
+        depth = ap (λ (b : Beam). b .bits) (m .behind) ∙ moved-bits xs beam ∙ g .depth;
+        surface = rw (m .behind, m .surface, ← laid-append w h xs ys beam s, ← e) (g .surface);
+        end = rw (m .behind, ← moved-append xs ys beam, ← e) (g .end);
       }
 
-  -- one colour is laid
-  pub going-lay : (c : ℕ) (ys : List Mark) {next : Beam} {t : List ℕ} → ms ≡ ink c ∷ ys → next ≡ stepped beam → t ≡ set s (place w h beam) c → Going w h ms₀ beam₀ s₀ ys next t
-  unfolding laid moved
-  going-lay c ys e en et = going-on (ink c ∷ []) ys e en et
-
   -- none are left
-  pub going-done : ms ≡ [] → (beam ≡ moved ms₀ beam₀) × (s ≡ laid w h ms₀ beam₀ s₀)
+  pub going-done : ms ≡ [] → MarksLaid w h ms₀ beam₀ s₀ beam s
   unfolding laid moved
-  going-done e = (ap (λ (l : List Mark). moved l beam) (sym e) ∙ g .end, ap (λ (l : List Mark). laid w h l beam s) (sym e) ∙ g .surface)
+  going-done e = record { behind = ap (λ (l : List Mark). moved l beam) (sym e) ∙ g .end; surface = ap (λ (l : List Mark). laid w h l beam s) (sym e) ∙ g .surface }
 
 -- ---- runs and pixels, by how many are left
 
@@ -95,14 +88,6 @@ pub raster-none : (beam : Beam) (n : ℕ) (l : List ℕ) (i : ℕ) → length l 
 unfolding rasterMarks
 raster-none beam n l i h = rw (drop-of-length-le l h)
 
-pub characters-more : (l : List ℕ) (i : ℕ) → i < length l → pixelCharacters (drop i l) ≡ pick (eqb (getD l i 0) endOfRow) 0 1 + pixelCharacters (drop (i + 1) l)
-unfolding pixelCharacters
-characters-more l i h = rw (drop-cons l i 0 h, add-one)
-
-pub characters-none : (l : List ℕ) (i : ℕ) → length l ≤ i → pixelCharacters (drop i l) ≡ 0
-unfolding pixelCharacters
-characters-none l i h = rw (drop-of-length-le l h)
-
 pub runs-more : (b : ℕ) (l : List ℕ) (i : ℕ) → i < length l → runMarks b (drop i l) ≡ run (getD l i 0 % 2 ^ b) (getD l i 0 / 2 ^ b) ++ runMarks b (drop (i + 1) l)
 unfolding runMarks
 runs-more b l i h = rw (drop-cons l i 0 h, add-one)
@@ -126,19 +111,19 @@ module _ (beam : Beam) (n ch : ℕ) {m : ℕ} (em : m ≡ min n (6 / beam .bits)
   character-room = rw em (room (beam .bits) n)
 
   module _ (o : ch ≡ endOfRow → ⊥) where
-    pub character-moved : {next : Beam} → next ≡ moved (pixels (beam .bits) m 6 (ch - 32)) beam → next ≡ moved (characterMarks beam n ch) beam
+    pub character-laid : {w h : ℕ} {s t : List ℕ} {next : Beam} → MarksLaid w h (pixels (beam .bits) m 6 (ch - 32)) beam s next t → MarksLaid w h (characterMarks beam n ch) beam s next t
     unfolding characterMarks
-    character-moved j = rw (ne-eqb ch endOfRow o) (rw em at j)
+    character-laid j = rw (ne-eqb ch endOfRow o) (rw em at j)
 
-    pub character-laid : (w h : ℕ) (s : List ℕ) {t : List ℕ} → t ≡ laid w h (pixels (beam .bits) m 6 (ch - 32)) beam s → t ≡ laid w h (characterMarks beam n ch) beam s
-    unfolding characterMarks
-    character-laid w h s j = rw (ne-eqb ch endOfRow o) (rw em at j)
+    pub left-so : n - m ≡ leftAfter beam n ch
+    unfolding leftAfter
+    left-so = rw (ne-eqb ch endOfRow o) (omega (arith, em))
 
 module _ (beam : Beam) (n ch : ℕ) (e : ch ≡ endOfRow) where
-  pub end-moved : {next : Beam} → next ≡ moved (rowEnd beam) beam → next ≡ moved (characterMarks beam n ch) beam
+  pub end-laid : {w h : ℕ} (s : List ℕ) {next : Beam} → next ≡ moved (rowEnd beam) beam → MarksLaid w h (characterMarks beam n ch) beam s next s
   unfolding characterMarks
-  end-moved j = rw (eq-eqb ch endOfRow e) j
+  end-laid {w} {h} s j = rw (eq-eqb ch endOfRow e) (record { behind = j; surface = sym (row-kept beam w h s) })
 
-  pub end-laid : (w h : ℕ) (s : List ℕ) → s ≡ laid w h (characterMarks beam n ch) beam s
-  unfolding characterMarks
-  end-laid w h s = rw (eq-eqb ch endOfRow e) (sym (row-kept beam w h s))
+  pub left-same : n ≡ leftAfter beam n ch
+  unfolding leftAfter
+  left-same = rw (eq-eqb ch endOfRow e)

@@ -1,37 +1,33 @@
--- Laws of the laying: a step keeps the record valid, marks laid one behind another are laid as one list, and a beam's place lies on the surface.
+-- Laws of the laying: a step keeps the beam inside, marks laid one behind another are laid as one list, and a beam's place lies on the surface.
 use Prim.Native.Nat.{ℕ, _+_, _-_, _*_, _≤_, _<_}
-use mathlib.Core.Path.{_≡_, refl, sym, _∙_, ap}
-use mathlib.Core.Bool.{Bool, true, false, _&&_}
+use mathlib.Core.Path.{_≡_, refl, _∙_}
+use mathlib.Core.Bool.{true, _&&_}
 use mathlib.Core.List.{List, [], _∷_, _++_}
-use native.Mathlib.Nat.{mul-le-mul}
 use native.Mathlib.Omega.{arith}
 use lib.Arith.{digits-lt}
 use lib.Dec.{leb, ltb, eqb}
 use lib.ListN.{length, getD, set, length-set}
-use borrow.Author.Tests.{lt-ltb, le-ltb, leb-true, ltb-true, ltb-false, eqb-true}
-use Rattle.refusals.specs.Answers.{pick}
+use borrow.Author.Tests.{leb-true, ltb-true, ltb-false, eqb-true}
 use Rattle.refusals.proofs.Cases.{by-pick, and-left, and-right}
 use Rattle.beam.specs.declared.Beam.{Beam}
-use Rattle.beam.specs.Validity.{isSize, isBits, onSurface, inViewport, isValid}
+use Rattle.beam.specs.Validity.{isSize, onSurface, inViewport, isValid}
 use Rattle.beam.specs.Settings.{beamAt, stepped}
-use Rattle.pixels.specs.Marks.{Mark, ink, act, place, laid, moved}
-use Rattle.pixels.specs.Writes.{isSurface}
-use Rattle.pixels.specs.Standing.{Valid, Ready}
+use Rattle.pixel_refusals.specs.Tests.{isSurface}
+use Rattle.pixel_refusals.proofs.Looking.{area-le, size-of}
+use Rattle.pixels.specs.Marks.{Mark, act, place, laid, moved}
+use Rattle.pixels.specs.Standing.{BeamInside, Ready}
 
 -- ---- the beam's place
 
-pub place-lt : {w h : ℕ} {beam : Beam} → Valid w h beam → place w h beam < h * w
+pub place-lt : {w h : ℕ} {beam : Beam} → BeamInside w h beam → place w h beam < h * w
 unfolding place
 place-lt {w} {h} {beam} v = digits-lt {q = h - 1 - beam .y} {m = h} {r = beam .x} {c = w} (omega arith) (omega arith)
-
-pub area-le : {w h : ℕ} → w ≤ 512 → h ≤ 512 → h * w ≤ 262144
-area-le {w} {h} hw hh = mul-le-mul {n₁ = h} {m₁ = w} {n₂ = 512} {m₂ = 512} hh hw
 
 -- the beam's index, as the code works it out, is below the surface's length, which is small
 pub on-surface : {w h : ℕ} {beam : Beam} {n : ℕ} → Ready w h beam n → ((h - 1 - beam .y) * w + beam .x < n) × (n ≤ 262144)
 unfolding place
 on-surface {w} {h} {beam} {n} r =
-    let l : (h - 1 - beam .y) * w + beam .x < h * w = place-lt (r .valid) in
+    let l : (h - 1 - beam .y) * w + beam .x < h * w = place-lt (r .inside) in
     let a : h * w ≤ 262144 = area-le (r .narrow) (r .short) in
     omega arith
 
@@ -47,8 +43,8 @@ by-step P beam f g k =
     (λ t. by-pick P (ltb (beam .bottom) (beam .y)) _ _ (λ u. g (ltb-false (beam .x) (beam .right) t) (ltb-true (beam .bottom) (beam .y) u))
     (λ u. k (ltb-false (beam .x) (beam .right) t) (ltb-false (beam .bottom) (beam .y) u)))
 
-pub step-valid : {w h : ℕ} {beam : Beam} → Valid w h beam → Valid w h (stepped beam)
-step-valid {w} {h} {beam} v = by-step (Valid w h) beam (λ l. omega arith) (λ l m. omega arith) (λ l m. omega arith)
+pub step-inside : {w h : ℕ} {beam : Beam} → BeamInside w h beam → BeamInside w h (stepped beam)
+step-inside {w} {h} {beam} v = by-step (BeamInside w h) beam (λ l. omega arith) (λ l m. omega arith) (λ l m. omega arith)
 
 pub step-bits : (beam : Beam) → stepped beam .bits ≡ beam .bits
 step-bits beam = by-step (λ (b : Beam). b .bits ≡ beam .bits) beam (λ l. refl) (λ l m. refl) (λ l m. refl)
@@ -71,10 +67,10 @@ laid-length w h [] beam s = refl
 laid-length w h (m ∷ ms) beam s =
     laid-length w h ms (stepped beam) (set s (place w h beam) (act m (getD s (place w h beam) 0))) ∙ length-set s (place w h beam) (act m (getD s (place w h beam) 0))
 
-pub moved-valid : {w h : ℕ} (ms : List Mark) {beam : Beam} → Valid w h beam → Valid w h (moved ms beam)
+pub moved-inside : {w h : ℕ} (ms : List Mark) {beam : Beam} → BeamInside w h beam → BeamInside w h (moved ms beam)
 unfolding moved
-moved-valid [] v = v
-moved-valid (m ∷ ms) v = moved-valid ms (step-valid v)
+moved-inside [] v = v
+moved-inside (m ∷ ms) v = moved-inside ms (step-inside v)
 
 pub moved-bits : (ms : List Mark) (beam : Beam) → moved ms beam .bits ≡ beam .bits
 unfolding moved
@@ -83,9 +79,9 @@ moved-bits (m ∷ ms) beam = moved-bits ms (stepped beam) ∙ step-bits beam
 
 -- ---- what the tests tell
 
-pub valid-of : (w h : ℕ) (beam : Beam) → isValid w h beam ≡ true → Valid w h beam
+pub inside-of : (w h : ℕ) (beam : Beam) → isValid w h beam ≡ true → BeamInside w h beam
 unfolding isValid onSurface inViewport
-valid-of w h beam e =
+inside-of w h beam e =
     let l = leb (beam .left) (beam .x) in
     let r = leb (beam .x) (beam .right) in
     let b = leb (beam .bottom) (beam .y) in
@@ -104,14 +100,7 @@ valid-of w h beam e =
     }
 
 pub ready-of : (w h size : ℕ) (beam : Beam) → isSurface w h size ≡ true → isValid w h beam ≡ true → Ready w h beam size
-unfolding isSurface isSize
+unfolding isSurface
 ready-of w h size beam e v =
-    let n : isSize w h ≡ true = and-left (isSize w h) (eqb size (h * w)) e in
-    let n₁ = and-right (leb 1 w) (leb w 512 && (leb 1 h && leb h 512)) n in
-    let n₂ = and-right (leb w 512) (leb 1 h && leb h 512) n₁ in
-    record {
-      valid = valid-of w h beam v;
-      whole = eqb-true size (h * w) (and-right (isSize w h) (eqb size (h * w)) e);
-      narrow = leb-true w 512 (and-left (leb w 512) (leb 1 h && leb h 512) n₁);
-      short = leb-true h 512 (and-right (leb 1 h) (leb h 512) n₂);
-    }
+    let n = size-of w h (and-left (isSize w h) (eqb size (h * w)) e) in
+    record { inside = inside-of w h beam v; whole = eqb-true size (h * w) (and-right (isSize w h) (eqb size (h * w)) e); narrow = n .0; short = n .1 }

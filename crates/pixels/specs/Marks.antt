@@ -1,6 +1,6 @@
 -- What a pixel write does, one mark after the other. A mark is a colour laid at the beam's place, or a gap: the beam passes the place and
 -- its byte stays. "Each pixel is stored at the beam; the beam goes right, then .."
-use Prim.Native.Nat.{ℕ, zero, suc, _+_, _-_, _*_}
+use Prim.Native.Nat.{ℕ, _+_, _-_, _*_}
 use mathlib.Core.List.{List, [], _∷_}
 use lib.ListN.{getD, set, replicate}
 use Rattle.beam.specs.declared.Beam.{Beam}

@@ -2,37 +2,25 @@
 -- down, 6/bits to a character. There must be exactly as many characters as N needs; spare low bits are not looked at. RL holds codes, none
 -- negative: length times 2^bits plus colour (house rule: length 0 places nothing)." And the end-of-row of K1: "Whole characters before it keep all
 -- their pixels. Places passed over aren't counted in N. Characters other than 96 must still be just as many as N needs."
-use Prim.Native.Nat.{ℕ, zero, suc, _+_, _-_, _*_, _/_, _%_, _^_, min}
-use mathlib.Core.Bool.{Bool, true, false, not, _&&_}
+use Prim.Native.Nat.{ℕ, zero, suc, _+_, _-_, _/_, _%_, _^_, min}
 use mathlib.Core.List.{List, [], _∷_, _++_, map}
 use lib.ListN.{length, replicate}
-use lib.Dec.{leb, eqb}
+use lib.Dec.{eqb}
 use lib.IntN.{ℤ, natAbs}
 use Rattle.refusals.specs.Refusals.{numberOf}
-use Rattle.refusals.specs.Answers.{pick, demand, every}
-use Rattle.ranges.specs.Ranges.{within}
+use Rattle.refusals.specs.Answers.{pick}
 use Rattle.beam.specs.declared.Beam.{Beam}
-use Rattle.beam.specs.Validity.{isSize, isValid}
+use Rattle.pixel_refusals.specs.Tests.{perCharacter, endOfRow, rasterRefusal, runRefusal}
 use Rattle.pixels.specs.declared.Drawing.{Drawing}
-use Rattle.pixels.specs.declared.Drawing.the-variants.{Drawn, NotDrawn}
-use Rattle.pixels.specs.declared.Verdict.{Verdict}
-use Rattle.pixels.specs.declared.Verdict.the-variants.{Allowed, Refused}
+use Rattle.pixels.specs.declared.Drawing.the-variants.{Drawn, Refused}
 use Rattle.pixels.specs.Marks.{Mark, ink, laid, moved, rowEnd}
 
 -- ---- the marks of a write
-
--- "6/bits to a character"
-abbrev pub perCharacter : ℕ → ℕ
-perCharacter bits = 6 / bits
 
 -- the first n pixels of the bits of v below sh, from the top bits down
 unfoldable pub pixels : (bits n sh v : ℕ) → List Mark
 pixels bits zero sh v = []
 pixels bits (suc n) sh v = ink (v / 2 ^ (sh - bits) % 2 ^ bits) ∷ pixels bits n (sh - bits) v
-
--- the end-of-row character
-abbrev pub endOfRow : ℕ
-endOfRow = 96
 
 -- one character's marks where n pixels are still to be named
 unfoldable pub characterMarks : Beam → (n ch : ℕ) → List Mark
@@ -60,70 +48,21 @@ unfoldable pub runTotal : (bits : ℕ) → List ℕ → ℕ
 runTotal bits [] = 0
 runTotal bits (k ∷ ks) = k / 2 ^ bits + runTotal bits ks
 
--- ---- "Order: 11, 8 for the record, 9, 8 for a number outside 0..32767 (in RP that is N alone, in RL each code) or a list of more than 256,
--- then 10 for a character outside 32..95 or a wrong number of them." K1: "10 as before, with 96 now allowed."
-
--- "the lent bytes number exactly W times H"
-unfoldable pub isSurface : (w h size : ℕ) → Bool
-isSurface w h size = isSize w h && eqb size (h * w)
-
-abbrev pub isNumber : ℤ → Bool
-isNumber v = within 0 32767 v
-
-abbrev pub isRaster : ℤ → Bool
-isRaster v = within 32 endOfRow v
-
-abbrev pub mostEntries : ℕ
-mostEntries = 256
-
--- as many characters as n pixels need
-abbrev pub needed : (bits n : ℕ) → ℕ
-needed bits n = (n + perCharacter bits - 1) / perCharacter bits
-
--- how many of the characters are other than 96
-unfoldable pub pixelCharacters : List ℕ → ℕ
-pixelCharacters [] = 0
-pixelCharacters (ch ∷ chs) = pick (eqb ch endOfRow) 0 1 + pixelCharacters chs
-
-unfoldable pub rasterNumbers : ℤ → List ℤ → Bool
-rasterNumbers n chs = leb (length chs) mostEntries && isNumber n
-
-unfoldable pub rasterCharacters : (bits : ℕ) → ℤ → List ℤ → Bool
-rasterCharacters bits n chs = eqb (pixelCharacters (map natAbs chs)) (needed bits (natAbs n)) && every isRaster chs
-
-unfoldable pub runNumbers : List ℤ → Bool
-runNumbers codes = leb (length codes) mostEntries && every isNumber codes
-
--- 11, 8, 9, and then what the write's own tests give
-unfoldable pub writeRefusal : (w h size : ℕ) → Beam → (next : ℕ) → ℕ
-writeRefusal w h size beam next = demand (isSurface w h size) 11 (demand (isValid w h beam) 8 (demand (not (eqb (beam .bits) 0)) 9 next))
-
-unfoldable pub rasterRefusal : (w h size : ℕ) → Beam → ℤ → List ℤ → ℕ
-rasterRefusal w h size beam n chs = writeRefusal w h size beam (demand (rasterNumbers n chs) 8 (demand (rasterCharacters (beam .bits) n chs) 10 0))
-
-unfoldable pub runRefusal : (w h size : ℕ) → Beam → List ℤ → ℕ
-runRefusal w h size beam codes = writeRefusal w h size beam (demand (runNumbers codes) 8 0)
-
--- what a verdict says: 0 or the refusal's number
-unfoldable pub verdictOf : Verdict → ℕ
-verdictOf Allowed = 0
-verdictOf (Refused e) = numberOf e
-
 -- ---- "A write is done whole or not at all and returns its number of pixels."
 
 -- 0 or the refusal's number, the number of pixels, and the record
-pub record Told : Type 0 where
+pub record WriteOutcome : Type 0 where
   pub number : ℕ
   pub count : ℕ
   pub after : Beam
 
 -- what the answer says; "counts with a refusal are 0"
-unfoldable pub drawingOf : Drawing → Told
+unfoldable pub drawingOf : Drawing → WriteOutcome
 drawingOf (Drawn n beam) = record { number = 0; count = n; after = beam }
-drawingOf (NotDrawn e beam) = record { number = numberOf e; count = 0; after = beam }
+drawingOf (Refused e beam) = record { number = numberOf e; count = 0; after = beam }
 
 -- a write with the refusal f, or with none, of n pixels by these marks: the answer, and the surface
-unfoldable pub written : (f n : ℕ) → List Mark → Beam → Told
+unfoldable pub written : (f n : ℕ) → List Mark → Beam → WriteOutcome
 written f n ms beam = record { number = f; count = pick (eqb f 0) n 0; after = pick (eqb f 0) (moved ms beam) beam }
 
 unfoldable pub surfaceAfter : (f w h : ℕ) → List Mark → Beam → List ℕ → List ℕ
@@ -133,7 +72,7 @@ surfaceAfter f w h ms beam s = pick (eqb f 0) (laid w h ms beam s) s
 abbrev pub rasterOf : Beam → ℤ → List ℤ → List Mark
 rasterOf beam n chs = rasterMarks beam (natAbs n) (map natAbs chs)
 
-unfoldable pub drawRaster : (w h : ℕ) → Beam → ℤ → List ℤ → (size : ℕ) → Told
+unfoldable pub drawRaster : (w h : ℕ) → Beam → ℤ → List ℤ → (size : ℕ) → WriteOutcome
 drawRaster w h beam n chs size = written (rasterRefusal w h size beam n chs) (natAbs n) (rasterOf beam n chs) beam
 
 unfoldable pub rasterSurface : (w h : ℕ) → Beam → ℤ → List ℤ → List ℕ → List ℕ
@@ -143,7 +82,7 @@ rasterSurface w h beam n chs s = surfaceAfter (rasterRefusal w h (length s) beam
 abbrev pub runsOf : Beam → List ℤ → List Mark
 runsOf beam codes = runMarks (beam .bits) (map natAbs codes)
 
-unfoldable pub drawRuns : (w h : ℕ) → Beam → List ℤ → (size : ℕ) → Told
+unfoldable pub drawRuns : (w h : ℕ) → Beam → List ℤ → (size : ℕ) → WriteOutcome
 drawRuns w h beam codes size = written (runRefusal w h size beam codes) (runTotal (beam .bits) (map natAbs codes)) (runsOf beam codes) beam
 
 unfoldable pub runsSurface : (w h : ℕ) → Beam → List ℤ → List ℕ → List ℕ

@@ -1,44 +1,34 @@
 // The two pixel writes, RP and RL, on a lent surface: its bytes hold the top row first, W times H of them.
-// A write first looks, and refuses without touching anything; then it lays its pixels one after the other at the beam.
+// A write that the tests of `pixel_refusals` refuse touches nothing; one that they allow lays its pixels one after the other at the beam.
 ghost use mathlib.Core.Path.{_≡_};
 ghost use mathlib.Core.Bool.{true};
-ghost use mathlib.Core.List.{map};
+ghost use mathlib.Core.List.{[], _∷_, map};
 ghost use Prim.Native.Nat.{_*_, _<_, _≤_, min};
-ghost use lib.ListN.{length, set, getD};
+ghost use lib.ListN.{length};
 ghost use lib.IntN.{natAbs};
 ghost use Rattle.refusals.specs.Answers.{every};
-ghost use Rattle.beam.specs.Settings.{stepped};
-ghost use Rattle.pixels.specs.Marks.{place, laid, moved, rowEnd};
-ghost use Rattle.pixels.specs.Writes.{pixels, characterMarks, leftAfter, run, rasterMarks, runMarks, runTotal, isSurface, isRaster, pixelCharacters, rasterNumbers, rasterCharacters, runNumbers, writeRefusal, rasterRefusal, runRefusal, verdictOf, drawingOf, drawRaster, rasterSurface, drawRuns, runsSurface};
-ghost use Rattle.pixels.specs.Standing.{Ready};
+ghost use Rattle.pixel_refusals.specs.Tests.{isRaster, runNumbers};
+ghost use Rattle.pixels.specs.Marks.{ink, moved, rowEnd};
+ghost use Rattle.pixels.specs.Writes.{pixels, characterMarks, leftAfter, run, rasterMarks, runMarks, runTotal, drawingOf, drawRaster, rasterSurface, drawRuns, runsSurface};
+ghost use Rattle.pixels.specs.Standing.{Ready, MarksLaid};
 use beam::Beam;
+use pixel_refusals::END_OF_ROW;
+use pixel_refusals::Verdict;
 use refusals::Refusal;
 
 pub enum Drawing {
     // the number of pixels, and the record behind them
     Drawn(usize, Beam),
     // the refusal, and the record as it came
-    NotDrawn(Refusal, Beam),
+    Refused(Refusal, Beam),
 }
-
-// Whether a write may be done.
-enum Verdict {
-    Allowed,
-    Refused(Refusal),
-}
-
-// "a list of more than 256"
-const MOST_ENTRIES: usize = 256;
-
-// The end-of-row character.
-const END_OF_ROW: usize = 96;
 
 // ---- laying
 
 // One colour at the beam's place, and the beam one place on.
-fn lay(surface: &mut [u8], w: usize, h: usize, beam: Beam, colour: u8) -> Beam
+fn lay_pixel(surface: &mut [u8], w: usize, h: usize, beam: Beam, colour: u8) -> Beam
     requires { ⌜ Ready w h beam (length (now surface)) ⌝ }
-    ensures { λ r. ⌜ (r ≡ stepped beam) × (now (surface .exit) ≡ set (now (surface .entry)) (place w h beam) colour) ⌝ }
+    ensures { λ r. ⌜ MarksLaid w h (ink colour ∷ []) beam (now (surface .entry)) r (now (surface .exit)) ⌝ }
 {
     let x = beam.x;
     let y = beam.y;
@@ -50,12 +40,12 @@ fn lay(surface: &mut [u8], w: usize, h: usize, beam: Beam, colour: u8) -> Beam
 // `n` pixels of one colour.
 fn lay_run(surface: &mut [u8], w: usize, h: usize, beam: Beam, colour: u8, n: usize) -> Beam
     requires { ⌜ Ready w h beam (length (now surface)) ⌝ }
-    ensures { λ r. ⌜ (r ≡ moved (run colour n) beam) × (now (surface .exit) ≡ laid w h (run colour n) beam (now (surface .entry))) ⌝ }
+    ensures { λ r. ⌜ MarksLaid w h (run colour n) beam (now (surface .entry)) r (now (surface .exit)) ⌝ }
 {
     let mut next = beam;
     let mut left = n;
     while left > 0 {
-        next = lay(surface, w, h, next, colour);
+        next = lay_pixel(surface, w, h, next, colour);
         left -= 1;
     }
     next
@@ -65,7 +55,7 @@ fn lay_run(surface: &mut [u8], w: usize, h: usize, beam: Beam, colour: u8, n: us
 fn lay_pixels(surface: &mut [u8], w: usize, h: usize, beam: Beam, six: usize, n: usize) -> Beam
     requires { ⌜ Ready w h beam (length (now surface)) ⌝ }
     requires { ⌜ (beam .bits * n ≤ 6) × (beam .bits ≤ 6) ⌝ }
-    ensures { λ r. ⌜ (r ≡ moved (pixels (beam .bits) n 6 six) beam) × (now (surface .exit) ≡ laid w h (pixels (beam .bits) n 6 six) beam (now (surface .entry))) ⌝ }
+    ensures { λ r. ⌜ MarksLaid w h (pixels (beam .bits) n 6 six) beam (now (surface .entry)) r (now (surface .exit)) ⌝ }
 {
     let bits = beam.bits;
     let mask = (1usize << bits) - 1;
@@ -75,7 +65,7 @@ fn lay_pixels(surface: &mut [u8], w: usize, h: usize, beam: Beam, six: usize, n:
     while left > 0 {
         shift -= bits;
         let colour = ((six >> shift) & mask) as u8;
-        next = lay(surface, w, h, next, colour);
+        next = lay_pixel(surface, w, h, next, colour);
         left -= 1;
     }
     next
@@ -101,7 +91,7 @@ fn row_end(beam: Beam) -> Beam
 fn lay_character(surface: &mut [u8], w: usize, h: usize, beam: Beam, n: usize, ch: usize) -> Beam
     requires { ⌜ Ready w h beam (length (now surface)) ⌝ }
     requires { ⌜ (0 < beam .bits) × ((beam .bits ≤ 6) × (32 ≤ ch)) ⌝ }
-    ensures { λ r. ⌜ (r ≡ moved (characterMarks beam n ch) beam) × (now (surface .exit) ≡ laid w h (characterMarks beam n ch) beam (now (surface .entry))) ⌝ }
+    ensures { λ r. ⌜ MarksLaid w h (characterMarks beam n ch) beam (now (surface .entry)) r (now (surface .exit)) ⌝ }
 {
     if ch == END_OF_ROW {
         return row_end(beam);
@@ -124,27 +114,18 @@ fn left_after(beam: Beam, n: usize, ch: usize) -> usize
     n - least(n, per)
 }
 
-// An entry of a lent list, once it is known not to be negative.
-fn entry(list: &[i32], i: usize) -> usize
-    requires { ⌜ i < length (now list) ⌝ }
-    ensures { λ r. ⌜ r ≡ getD (map natAbs (now (list .entry))) i 0 ⌝ }
-{
-    let v = list[i];
-    signs::magnitude(v) as usize
-}
-
 // The `n` pixels of raster characters.
 fn lay_raster(surface: &mut [u8], w: usize, h: usize, beam: Beam, n: usize, list: &[i32]) -> Beam
     requires { ⌜ Ready w h beam (length (now surface)) ⌝ }
     requires { ⌜ (0 < beam .bits) × (beam .bits ≤ 6) ⌝ }
     requires { ⌜ every isRaster (now list) ≡ true ⌝ }
-    ensures { λ r. ⌜ (r ≡ moved (rasterMarks beam n (map natAbs (now (list .entry)))) beam) × (now (surface .exit) ≡ laid w h (rasterMarks beam n (map natAbs (now (list .entry)))) beam (now (surface .entry))) ⌝ }
+    ensures { λ r. ⌜ MarksLaid w h (rasterMarks beam n (map natAbs (now (list .entry)))) beam (now (surface .entry)) r (now (surface .exit)) ⌝ }
 {
     let mut next = beam;
     let mut left = n;
     let mut i = 0;
     while i < list.len() {
-        let ch = entry(list, i);
+        let ch = pixel_refusals::entry(list, i);
         let then_left = left_after(next, left, ch);
         next = lay_character(surface, w, h, next, left, ch);
         left = then_left;
@@ -157,14 +138,14 @@ fn lay_raster(surface: &mut [u8], w: usize, h: usize, beam: Beam, n: usize, list
 fn lay_runs(surface: &mut [u8], w: usize, h: usize, beam: Beam, list: &[i32]) -> Beam
     requires { ⌜ Ready w h beam (length (now surface)) ⌝ }
     requires { ⌜ beam .bits ≤ 6 ⌝ }
-    ensures { λ r. ⌜ (r ≡ moved (runMarks (beam .bits) (map natAbs (now (list .entry)))) beam) × (now (surface .exit) ≡ laid w h (runMarks (beam .bits) (map natAbs (now (list .entry)))) beam (now (surface .entry))) ⌝ }
+    ensures { λ r. ⌜ MarksLaid w h (runMarks (beam .bits) (map natAbs (now (list .entry)))) beam (now (surface .entry)) r (now (surface .exit)) ⌝ }
 {
     let bits = beam.bits;
     let mask = (1usize << bits) - 1;
     let mut next = beam;
     let mut i = 0;
     while i < list.len() {
-        let code = entry(list, i);
+        let code = pixel_refusals::entry(list, i);
         let colour = (code & mask) as u8;
         let n = code >> bits;
         next = lay_run(surface, w, h, next, colour, n);
@@ -181,123 +162,11 @@ fn run_total(bits: usize, list: &[i32]) -> usize
     let mut sum: usize = 0;
     let mut i = 0;
     while i < list.len() {
-        let n = entry(list, i) >> bits;
+        let n = pixel_refusals::entry(list, i) >> bits;
         sum += n;
         i += 1;
     }
     sum
-}
-
-// ---- looking
-
-// "the lent bytes number exactly W times H"
-fn is_surface(w: usize, h: usize, size: usize) -> bool
-    ensures { λ r. ⌜ r ≡ isSurface w h size ⌝ }
-{
-    if beam::is_size(w, h) {
-        let area = h * w;
-        return size == area;
-    }
-    false
-}
-
-fn are_raster_numbers(n: i32, list: &[i32]) -> bool
-    ensures { λ r. ⌜ r ≡ rasterNumbers n (now (list .entry)) ⌝ }
-{
-    if list.len() > MOST_ENTRIES {
-        return false;
-    }
-    ranges::is_within(0, 32767, n)
-}
-
-// How many of the characters hold pixels: all but the ends of rows.
-fn pixel_characters(list: &[i32]) -> usize
-    ensures { λ r. ⌜ r ≡ pixelCharacters (map natAbs (now (list .entry))) ⌝ }
-{
-    let mut count: usize = 0;
-    let mut i = 0;
-    while i < list.len() {
-        let ch = entry(list, i);
-        if ch != END_OF_ROW {
-            count += 1;
-        }
-        i += 1;
-    }
-    count
-}
-
-// "Characters other than 96 must still be just as many as N needs", and each character is 32..96.
-fn are_raster_characters(bits: usize, n: i32, list: &[i32]) -> bool
-    requires { ⌜ (0 < bits) × (bits ≤ 6) ⌝ }
-    ensures { λ r. ⌜ r ≡ rasterCharacters bits n (now (list .entry)) ⌝ }
-{
-    let per = 6 / bits;
-    let count = signs::magnitude(n) as usize;
-    let full = count + per - 1;
-    if pixel_characters(list) == full / per {
-        return ranges::are_within(32, 96, list);
-    }
-    false
-}
-
-fn are_run_numbers(list: &[i32]) -> bool
-    ensures { λ r. ⌜ r ≡ runNumbers (now (list .entry)) ⌝ }
-{
-    if list.len() > MOST_ENTRIES {
-        return false;
-    }
-    ranges::are_within(0, 32767, list)
-}
-
-// 11, 8 for the record, 9.
-fn write_verdict(w: usize, h: usize, size: usize, beam: Beam) -> Verdict
-    ensures { λ r. ⌜ verdictOf r ≡ writeRefusal w h size beam 0 ⌝ }
-{
-    let bits = beam.bits;
-    if !is_surface(w, h, size) {
-        return Verdict::Refused(Refusal::SurfaceSize);
-    }
-    if !beam::is_valid(w, h, beam) {
-        return Verdict::Refused(Refusal::NotValid);
-    }
-    if bits == 0 {
-        return Verdict::Refused(Refusal::BitsNotSet);
-    }
-    Verdict::Allowed
-}
-
-// Then 8 for N or for too many characters, then 10.
-fn raster_verdict(w: usize, h: usize, size: usize, beam: Beam, n: i32, list: &[i32]) -> Verdict
-    ensures { λ r. ⌜ verdictOf r ≡ rasterRefusal w h size beam n (now (list .entry)) ⌝ }
-{
-    let bits = beam.bits;
-    match write_verdict(w, h, size, beam) {
-        Verdict::Refused(e) => Verdict::Refused(e),
-        Verdict::Allowed => {
-            if !are_raster_numbers(n, list) {
-                return Verdict::Refused(Refusal::NotValid);
-            }
-            if are_raster_characters(bits, n, list) {
-                return Verdict::Allowed;
-            }
-            Verdict::Refused(Refusal::RasterCharacters)
-        }
-    }
-}
-
-// Then 8 for a code or for too many of them.
-fn run_verdict(w: usize, h: usize, size: usize, beam: Beam, list: &[i32]) -> Verdict
-    ensures { λ r. ⌜ verdictOf r ≡ runRefusal w h size beam (now (list .entry)) ⌝ }
-{
-    match write_verdict(w, h, size, beam) {
-        Verdict::Refused(e) => Verdict::Refused(e),
-        Verdict::Allowed => {
-            if are_run_numbers(list) {
-                return Verdict::Allowed;
-            }
-            Verdict::Refused(Refusal::NotValid)
-        }
-    }
 }
 
 // ---- the two writes
@@ -313,8 +182,8 @@ pub fn draw_raster(
 ) -> Drawing
     ensures { λ r. ⌜ (drawingOf r ≡ drawRaster w h beam n (now (list .entry)) (length (now (surface .entry)))) × (now (surface .exit) ≡ rasterSurface w h beam n (now (list .entry)) (now (surface .entry))) ⌝ }
 {
-    match raster_verdict(w, h, surface.len(), beam, n, list) {
-        Verdict::Refused(refusal) => Drawing::NotDrawn(refusal, beam),
+    match pixel_refusals::raster_verdict(w, h, surface.len(), beam, n, list) {
+        Verdict::Refused(refusal) => Drawing::Refused(refusal, beam),
         Verdict::Allowed => {
             let count = signs::magnitude(n) as usize;
             let after = lay_raster(surface, w, h, beam, count, list);
@@ -328,8 +197,8 @@ pub fn draw_runs(surface: &mut [u8], w: usize, h: usize, beam: Beam, list: &[i32
     ensures { λ r. ⌜ (drawingOf r ≡ drawRuns w h beam (now (list .entry)) (length (now (surface .entry)))) × (now (surface .exit) ≡ runsSurface w h beam (now (list .entry)) (now (surface .entry))) ⌝ }
 {
     let bits = beam.bits;
-    match run_verdict(w, h, surface.len(), beam, list) {
-        Verdict::Refused(e) => Drawing::NotDrawn(e, beam),
+    match pixel_refusals::run_verdict(w, h, surface.len(), beam, list) {
+        Verdict::Refused(refusal) => Drawing::Refused(refusal, beam),
         Verdict::Allowed => {
             let total = run_total(bits, list);
             let after = lay_runs(surface, w, h, beam, list);

@@ -5,7 +5,7 @@ use Rattle.refusals.specs.declared.Refusal.{Refusal}
 use Rattle.refusals.specs.Refusals.{numberOf}
 use Rattle.beam.specs.declared.Beam.{Beam}
 use Rattle.beam.specs.declared.Setting.{Setting}
-use Rattle.beam.specs.declared.Setting.the-variants.{Set, NotSet}
+use Rattle.beam.specs.declared.Setting.the-variants.{Set, Refused}
 use Rattle.beam.specs.Settings.{settingOf, makeStep}
 
 module _ (w h : ℕ) (beam : Beam) {s : Setting} (es : settingOf s ≡ makeStep w h beam) where
@@ -13,7 +13,7 @@ module _ (w h : ℕ) (beam : Beam) {s : Setting} (es : settingOf s ≡ makeStep 
   unfolding settingOf
   number-set new g = rw (← es, g)
 
-  pub number-refused : (e : Refusal) (old : Beam) {n : ℕ} → s ≡ NotSet e old → n ≡ numberOf e → n ≡ makeStep w h beam .number
+  pub number-refused : (e : Refusal) (old : Beam) {n : ℕ} → s ≡ Refused e old → n ≡ numberOf e → n ≡ makeStep w h beam .number
   unfolding settingOf
   number-refused e old g en = rw (← es, g) en
 
@@ -21,7 +21,7 @@ module _ (w h : ℕ) (beam : Beam) {s : Setting} (es : settingOf s ≡ makeStep 
   unfolding settingOf
   after-set new g = rw (← es, g)
 
-  pub after-refused : (e : Refusal) (old : Beam) → s ≡ NotSet e old → old ≡ makeStep w h beam .after
+  pub after-refused : (e : Refusal) (old : Beam) → s ≡ Refused e old → old ≡ makeStep w h beam .after
   unfolding settingOf
   after-refused e old g = rw (← es, g)
 

@@ -10,7 +10,7 @@ fn number_of_step(beam: Beam, w: usize, h: usize) -> u8
 {
     match beam::step_on(w, h, beam) {
         Setting::Set(new) => 0,
-        Setting::NotSet(refusal, old) => refusals::number(refusal),
+        Setting::Refused(refusal, old) => refusals::number(refusal),
     }
 }
 
@@ -20,7 +20,7 @@ fn beam_after_step(beam: Beam, w: usize, h: usize) -> Beam
 {
     match beam::step_on(w, h, beam) {
         Setting::Set(new) => new,
-        Setting::NotSet(refusal, old) => old,
+        Setting::Refused(refusal, old) => old,
     }
 }
 

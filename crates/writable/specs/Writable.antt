@@ -10,7 +10,7 @@ use Rattle.memory.specs.declared.Remembered.{Remembered}
 use Rattle.memory.specs.Memory.{inside}
 use Rattle.refusals.specs.Answers.{every}
 use Rattle.signs.specs.Signs.{isInteger}
-use Rattle.numbers.specs.Counts.{mostEntries}
+use Rattle.ranges.specs.Ranges.{mostEntries}
 use Rattle.characters.specs.Characters.{isCharacter}
 use Rattle.table.specs.declared.Kind.{Kind}
 use Rattle.table.specs.declared.Kind.the-variants as K

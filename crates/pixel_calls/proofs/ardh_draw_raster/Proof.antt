@@ -1,4 +1,4 @@
-use Rattle.pixel_calls.proofs.Answers.{drawn-number-so, drawn-count-so, drawn-fields-so, raster-given, raster-laid}
+use Rattle.pixel_calls.proofs.Answers.{written-so, raster-given, raster-laid}
 use borrow.Author.Needs.{needs}
 use Rattle.pixel_calls.proofs.ardh_draw_raster.Statement.{statement}
 use Rattle.pixel_calls.proofs.ardh_draw_raster.Tie as tie
@@ -9,29 +9,16 @@ beam-in-requires c κs = search needs
 draw-raster-requires : tie.Need-draw-raster-requires
 draw-raster-requires c κs = search needs
 
-drawn-fields-requires : tie.Need-drawn-fields-requires
-drawn-fields-requires c κs = search needs
-
-drawn-count-requires : tie.Need-drawn-count-requires
-drawn-count-requires c κs = search needs
-
-drawn-number-requires : tie.Need-drawn-number-requires
-drawn-number-requires c κs = search needs
+of-drawing-requires : tie.Need-of-drawing-requires
+of-drawing-requires c κs = search needs
 
 same-length : tie.Need-same-length
 same-length c = search needs
 
 returns : tie.Need-returns
-returns c = (search (needs, drawn-number-so, raster-given), (search (needs, drawn-count-so, raster-given), (search (needs, drawn-fields-so, raster-given), search (needs, raster-laid))))
+returns c = (search (needs, written-so, raster-given), search (needs, raster-laid))
 
 pub ardh-draw-raster-spec : {M : Type 1} → statement M
 ardh-draw-raster-spec =
     tie.close
-    (tie.spec
-    beam-in-requires
-    draw-raster-requires
-    drawn-fields-requires
-    drawn-count-requires
-    drawn-number-requires
-    same-length
-    returns)
+    (tie.spec beam-in-requires draw-raster-requires of-drawing-requires same-length returns)

@@ -1,4 +1,4 @@
-use Rattle.pixel_calls.proofs.Answers.{drawn-number-so, drawn-count-so, drawn-fields-so, runs-given, runs-laid}
+use Rattle.pixel_calls.proofs.Answers.{written-so, runs-given, runs-laid}
 use borrow.Author.Needs.{needs}
 use Rattle.pixel_calls.proofs.ardh_draw_runs.Statement.{statement}
 use Rattle.pixel_calls.proofs.ardh_draw_runs.Tie as tie
@@ -9,29 +9,16 @@ beam-in-requires c κs = search needs
 draw-runs-requires : tie.Need-draw-runs-requires
 draw-runs-requires c κs = search needs
 
-drawn-fields-requires : tie.Need-drawn-fields-requires
-drawn-fields-requires c κs = search needs
-
-drawn-count-requires : tie.Need-drawn-count-requires
-drawn-count-requires c κs = search needs
-
-drawn-number-requires : tie.Need-drawn-number-requires
-drawn-number-requires c κs = search needs
+of-drawing-requires : tie.Need-of-drawing-requires
+of-drawing-requires c κs = search needs
 
 same-length : tie.Need-same-length
 same-length c = search needs
 
 returns : tie.Need-returns
-returns c = (search (needs, drawn-number-so, runs-given), (search (needs, drawn-count-so, runs-given), (search (needs, drawn-fields-so, runs-given), search (needs, runs-laid))))
+returns c = (search (needs, written-so, runs-given), search (needs, runs-laid))
 
 pub ardh-draw-runs-spec : {M : Type 1} → statement M
 ardh-draw-runs-spec =
     tie.close
-    (tie.spec
-    beam-in-requires
-    draw-runs-requires
-    drawn-fields-requires
-    drawn-count-requires
-    drawn-number-requires
-    same-length
-    returns)
+    (tie.spec beam-in-requires draw-runs-requires of-drawing-requires same-length returns)

@@ -1,5 +1,5 @@
 use Rattle.coordinates.proofs.Sides.{point-given}
-use Rattle.pixel_calls.proofs.Answers.{set, beam-given}
+use Rattle.pixel_calls.proofs.Answers.{settled-so, beam-given}
 use borrow.Author.Needs.{needs}
 use Rattle.pixel_calls.proofs.ardh_set_beam.Statement.{statement}
 use Rattle.pixel_calls.proofs.ardh_set_beam.Tie as tie
@@ -13,22 +13,13 @@ beam-in-requires c κs = search needs
 set-beam-requires : tie.Need-set-beam-requires
 set-beam-requires c κs = search needs
 
-set-fields-requires : tie.Need-set-fields-requires
-set-fields-requires c κs = search needs
-
-set-number-requires : tie.Need-set-number-requires
-set-number-requires c κs = search needs
+of-setting-requires : tie.Need-of-setting-requires
+of-setting-requires c κs = search needs
 
 returns : tie.Need-returns
-returns c = search (needs, set, beam-given, point-given)
+returns c = search (needs, settled-so, beam-given, point-given)
 
 pub ardh-set-beam-spec : {M : Type 1} → statement M
 ardh-set-beam-spec =
     tie.close
-    (tie.spec
-    point-of-requires
-    beam-in-requires
-    set-beam-requires
-    set-fields-requires
-    set-number-requires
-    returns)
+    (tie.spec point-of-requires beam-in-requires set-beam-requires of-setting-requires returns)

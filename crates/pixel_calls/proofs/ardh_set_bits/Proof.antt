@@ -1,4 +1,4 @@
-use Rattle.pixel_calls.proofs.Answers.{set, bits-given}
+use Rattle.pixel_calls.proofs.Answers.{settled-so, bits-given}
 use borrow.Author.Needs.{needs}
 use Rattle.pixel_calls.proofs.ardh_set_bits.Statement.{statement}
 use Rattle.pixel_calls.proofs.ardh_set_bits.Tie as tie
@@ -9,16 +9,12 @@ beam-in-requires c κs = search needs
 set-bits-requires : tie.Need-set-bits-requires
 set-bits-requires c κs = search needs
 
-set-fields-requires : tie.Need-set-fields-requires
-set-fields-requires c κs = search needs
-
-set-number-requires : tie.Need-set-number-requires
-set-number-requires c κs = search needs
+of-setting-requires : tie.Need-of-setting-requires
+of-setting-requires c κs = search needs
 
 returns : tie.Need-returns
-returns c = search (needs, set, bits-given)
+returns c = search (needs, settled-so, bits-given)
 
 pub ardh-set-bits-spec : {M : Type 1} → statement M
 ardh-set-bits-spec =
-    tie.close
-    (tie.spec beam-in-requires set-bits-requires set-fields-requires set-number-requires returns)
+    tie.close (tie.spec beam-in-requires set-bits-requires of-setting-requires returns)

@@ -1,5 +1,5 @@
 use Rattle.coordinates.proofs.Sides.{point-given}
-use Rattle.pixel_calls.proofs.Answers.{set, viewport-given}
+use Rattle.pixel_calls.proofs.Answers.{settled-so, viewport-given}
 use borrow.Author.Needs.{needs}
 use Rattle.pixel_calls.proofs.ardh_set_viewport.Statement.{statement}
 use Rattle.pixel_calls.proofs.ardh_set_viewport.Tie as tie
@@ -16,14 +16,11 @@ beam-in-requires c κs = search needs
 set-viewport-requires : tie.Need-set-viewport-requires
 set-viewport-requires c κs = search needs
 
-set-fields-requires : tie.Need-set-fields-requires
-set-fields-requires c κs = search needs
-
-set-number-requires : tie.Need-set-number-requires
-set-number-requires c κs = search needs
+of-setting-requires : tie.Need-of-setting-requires
+of-setting-requires c κs = search needs
 
 returns : tie.Need-returns
-returns c = search (needs, set, viewport-given, point-given)
+returns c = search (needs, settled-so, viewport-given, point-given)
 
 pub ardh-set-viewport-spec : {M : Type 1} → statement M
 ardh-set-viewport-spec =
@@ -33,6 +30,5 @@ ardh-set-viewport-spec =
     point-of-requires-2
     beam-in-requires
     set-viewport-requires
-    set-fields-requires
-    set-number-requires
+    of-setting-requires
     returns)

@@ -6,8 +6,8 @@ use Rattle.pixels.proofs.draw_runs.Tie as tie
 run-verdict-requires : tie.Need-run-verdict-requires
 run-verdict-requires c κs = search needs
 
-enum-known-e : tie.Need-enum-known-e
-enum-known-e c = search needs
+enum-known-refusal : tie.Need-enum-known-refusal
+enum-known-refusal c = search needs
 
 enum-told : tie.Need-enum-told
 enum-told c = search needs
@@ -32,7 +32,7 @@ draw-runs-spec =
     tie.close
     (tie.spec
     run-verdict-requires
-    enum-known-e
+    enum-known-refusal
     enum-told
     run-total-requires
     lay-runs-requires

@@ -1,4 +1,4 @@
-use Rattle.pixels.proofs.Going.{character-room, character-moved, character-laid, end-moved, end-laid}
+use Rattle.pixels.proofs.Going.{character-room, character-laid, end-laid}
 use borrow.Author.Needs.{needs}
 use Rattle.pixels.proofs.lay_character.Statement.{statement}
 use Rattle.pixels.proofs.lay_character.Tie as tie
@@ -7,7 +7,7 @@ row-end-requires : tie.Need-row-end-requires
 row-end-requires c κs = search needs
 
 returns : tie.Need-returns
-returns c = search (needs, end-moved, end-laid)
+returns c = search (needs, end-laid)
 
 div-per : tie.Need-div-per
 div-per c = search needs
@@ -25,7 +25,7 @@ same-length : tie.Need-same-length
 same-length c = search needs
 
 returns-2 : tie.Need-returns-2
-returns-2 c = search (needs, character-moved, character-laid)
+returns-2 c = search (needs, character-laid)
 
 pub lay-character-spec : {M : Type 1} → statement M
 lay-character-spec =

@@ -1,13 +1,11 @@
 use Prim.Native.Nat.{ℕ, _-_, _*_, _/_, _%_, _^_, _≤_}
-use mathlib.Core.Path.{_∙_, ap}
-use mathlib.Core.List.{List}
+use mathlib.Core.List.{List, [], _∷_}
 use native.Mathlib.Omega.{arith}
 use lib.Pow.{pow-pos}
-use lib.ListN.{set}
 use Rattle.beam.specs.declared.Beam.{Beam}
-use Rattle.pixels.specs.Marks.{place}
+use Rattle.pixels.specs.Marks.{ink}
 use Rattle.pixels.specs.Writes.{pixels}
-use Rattle.pixels.proofs.Going.{Going, going, going-lay, going-done, pixels-more, pixels-none, bits-less}
+use Rattle.pixels.proofs.Going.{Going, going, going-on, going-done, pixels-more, pixels-none, bits-less}
 use Rattle.pixels.proofs.Bits.{mask-ok, masked, low-lt}
 use Rattle.pixels.proofs.lay_pixels.Statement.{statement}
 use Rattle.pixels.proofs.lay_pixels.Tie as tie
@@ -46,8 +44,8 @@ cast-colour c =
     let l = c .before .before .before .pre .1 .1 in
     omega (arith, masked (a .beam .bits) x l, low-lt (a .beam .bits) x l)
 
-lay-requires : tie.Need-lay-requires Inv-loop μ-loop
-lay-requires c κs = c .before .before .loop .inv .going .ready
+lay-pixel-requires : tie.Need-lay-pixel-requires Inv-loop μ-loop
+lay-pixel-requires c κs = c .before .before .loop .inv .going .ready
 
 sub-left : tie.Need-sub-left Inv-loop μ-loop
 sub-left c = omega arith
@@ -65,9 +63,9 @@ loop-again c =
     let sh = at-loop .loop .shift in
     let more = in-loop .loop-test .taken in
     let colour = masked b (a .six / 2 ^ (sh - b)) (at-loop .before .before .pre .1 .1) in
-    let stored = c .before .before .lay .ensures .1 ∙ ap (λ (k : ℕ). set (at-loop .loop .surface) (place (a .w) (a .h) (at-loop .loop .next)) k) colour in
+    let laid = rw colour at (c .before .before .lay-pixel .ensures) in
     record {
-      going = going-lay (at-loop .loop .inv .going) (a .six / 2 ^ (sh - b) % 2 ^ b) (pixels b (n - 1) (sh - b) (a .six)) (pixels-more b n sh (a .six) more) (c .before .before .lay .ensures .0) stored;
+      going = going-on (at-loop .loop .inv .going) (ink (a .six / 2 ^ (sh - b) % 2 ^ b) ∷ []) (pixels b (n - 1) (sh - b) (a .six)) (pixels-more b n sh (a .six) more) laid;
       room = omega (arith, bits-less b n more);
       six = omega arith;
     }
@@ -90,7 +88,7 @@ lay-pixels-spec =
     sub-shift
     shr-colour
     cast-colour
-    lay-requires
+    lay-pixel-requires
     sub-left
     loop-less
     loop-again

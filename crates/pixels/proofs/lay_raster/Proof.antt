@@ -1,14 +1,14 @@
-use Prim.Native.Nat.{ℕ, _+_, _-_, _≤_, _<_}
+use Prim.Native.Nat.{_+_, _-_, _≤_, _<_}
 use mathlib.Core.Path.{_≡_, refl}
 use mathlib.Core.List.{map, _++_}
 use native.Mathlib.Omega.{arith}
 use borrow.Author.Needs.{needs}
 use lib.ListN.{length, getD, drop, length-map}
 use lib.IntN.{natAbs}
-use Rattle.pixels.specs.Marks.{laid, moved}
+use Rattle.pixels.specs.Marks.{moved}
 use Rattle.pixels.specs.Writes.{characterMarks, leftAfter, rasterMarks}
 use Rattle.pixels.proofs.Going.{Going, going, going-on, going-done, raster-more, raster-none}
-use Rattle.pixels.proofs.Looking.{entry-within}
+use Rattle.pixel_refusals.proofs.Entries.{entry-within}
 use Rattle.pixels.proofs.lay_raster.Statement.{statement}
 use Rattle.pixels.proofs.lay_raster.Tie as tie
 
@@ -59,7 +59,7 @@ loop-again c =
     let xs = characterMarks b n k in
     let ys = rasterMarks (moved xs b) (leftAfter b n k) (drop (i + 1) l) in
     let d : rasterMarks b n (drop i l) ≡ xs ++ ys = rw e (raster-more b n l i il) in
-    (omega arith, rw (left, m .0) (going-on (at-loop .loop .inv .1) xs ys d refl (m .1)))
+    (omega arith, rw (left, m .behind) (going-on (at-loop .loop .inv .1) xs ys d (record { behind = refl; surface = m .surface })))
 
 same-length : tie.Need-same-length Inv-loop μ-loop
 same-length c = c .before .loop .inv .1 .long

@@ -1,7 +1,9 @@
 use Prim.Native.Nat.{_-_}
+use mathlib.Core.List.{[], _∷_}
 use native.Mathlib.Omega.{arith}
+use Rattle.pixels.specs.Marks.{ink}
 use Rattle.pixels.specs.Writes.{run}
-use Rattle.pixels.proofs.Going.{Going, going, going-lay, going-done, run-more, run-none}
+use Rattle.pixels.proofs.Going.{Going, going, going-on, going-done, run-more, run-none}
 use Rattle.pixels.proofs.lay_run.Statement.{statement}
 use Rattle.pixels.proofs.lay_run.Tie as tie
 
@@ -14,8 +16,8 @@ abbrev μ-loop : tie.MeasureT-loop
 loop-holds : tie.Need-loop-holds Inv-loop μ-loop
 loop-holds c = going _ _ _ (c .before .pre)
 
-lay-requires : tie.Need-lay-requires Inv-loop μ-loop
-lay-requires c κs = c .before .before .loop .inv .ready
+lay-pixel-requires : tie.Need-lay-pixel-requires Inv-loop μ-loop
+lay-pixel-requires c κs = c .before .before .loop .inv .ready
 
 sub-left : tie.Need-sub-left Inv-loop μ-loop
 sub-left c = omega arith
@@ -29,7 +31,7 @@ loop-again c =
     let at-loop = in-loop .before in
     let a = at-loop .before .before .args in
     let n = at-loop .loop .left in
-    going-lay (at-loop .loop .inv) (a .colour) (run (a .colour) (n - 1)) (run-more (a .colour) n (in-loop .loop-test .taken)) (c .before .before .lay .ensures .0) (c .before .before .lay .ensures .1)
+    going-on (at-loop .loop .inv) (ink (a .colour) ∷ []) (run (a .colour) (n - 1)) (run-more (a .colour) n (in-loop .loop-test .taken)) (c .before .before .lay-pixel .ensures)
 
 same-length : tie.Need-same-length Inv-loop μ-loop
 same-length c = c .before .loop .inv .long
@@ -44,7 +46,7 @@ lay-run-spec =
     Inv-loop
     μ-loop
     loop-holds
-    lay-requires
+    lay-pixel-requires
     sub-left
     loop-less
     loop-again

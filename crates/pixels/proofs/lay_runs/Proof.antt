@@ -1,12 +1,11 @@
-use Prim.Native.Nat.{ℕ, _+_, _-_, _*_, _/_, _%_, _^_, _≤_, _<_}
-use mathlib.Core.Path.{_≡_, refl}
+use Prim.Native.Nat.{_+_, _-_, _*_, _/_, _%_, _^_, _≤_, _<_}
+use mathlib.Core.Path.{_≡_}
 use mathlib.Core.List.{map, _++_}
 use native.Mathlib.Omega.{arith}
 use lib.Bits.{bitAnd}
 use lib.Pow.{pow-pos}
 use lib.ListN.{length, getD, drop, length-map}
 use lib.IntN.{natAbs}
-use Rattle.pixels.specs.Marks.{Mark, laid, moved}
 use Rattle.pixels.specs.Writes.{run, runMarks}
 use Rattle.pixels.proofs.Going.{Going, going, going-on, going-done, runs-more, runs-none}
 use Rattle.pixels.proofs.Bits.{mask-ok, masked, low-lt}
@@ -64,7 +63,7 @@ loop-again c =
     let m = c .before .before .lay-run .ensures in
     let xs = run (bitAnd k (1 * 2 ^ b % 2 ^ 64 - 1)) (k / 2 ^ b) in
     let d : runMarks b (drop i l) ≡ xs ++ runMarks b (drop (i + 1) l) = rw (masked b k (start .pre .1), e) (runs-more b l i il) in
-    (omega arith, going-on (at-loop .loop .inv .1) xs (runMarks b (drop (i + 1) l)) d (m .0) (m .1))
+    (omega arith, going-on (at-loop .loop .inv .1) xs (runMarks b (drop (i + 1) l)) d m)
 
 same-length : tie.Need-same-length Inv-loop μ-loop
 same-length c = c .before .loop .inv .1 .long

@@ -1,4 +1,4 @@
-use Rattle.pixels.proofs.Looking.{left-so, left-same}
+use Rattle.pixels.proofs.Going.{left-so, left-same}
 use borrow.Author.Needs.{needs}
 use Rattle.pixels.proofs.left_after.Statement.{statement}
 use Rattle.pixels.proofs.left_after.Tie as tie

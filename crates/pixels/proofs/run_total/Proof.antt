@@ -1,4 +1,4 @@
-use Prim.Native.Nat.{ℕ, _+_, _-_, _*_, _/_, _^_, _≤_, _<_}
+use Prim.Native.Nat.{_+_, _-_, _*_, _/_, _^_, _≤_, _<_}
 use mathlib.Core.Path.{_≡_}
 use mathlib.Core.List.{map}
 use native.Mathlib.Nat.{div-le-self}
@@ -7,7 +7,8 @@ use lib.ListN.{length, getD, drop, length-map}
 use lib.IntN.{natAbs}
 use Rattle.pixels.specs.Writes.{runTotal}
 use Rattle.pixels.proofs.Going.{total-more, total-none}
-use Rattle.pixels.proofs.Looking.{entry-within, few-codes, codes-within}
+use Rattle.pixel_refusals.proofs.Entries.{entry-within}
+use Rattle.pixel_refusals.proofs.Looking.{few-codes, codes-within}
 use Rattle.pixels.proofs.run_total.Statement.{statement}
 use Rattle.pixels.proofs.run_total.Tie as tie
 
