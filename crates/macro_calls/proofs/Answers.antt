@@ -9,11 +9,12 @@ use mir.Val.{SFits, toZ, ofZ}
 use mir.Facts.{toZ-ofZ}
 use Rattle.refusals.specs.declared.Refusal.{Refusal}
 use Rattle.refusals.specs.Refusals.{numberOf}
-use Rattle.macros.specs.declared.Defining.{Defining}
-use Rattle.macros.specs.declared.Defining.the-variants.{Defined, NotDefined}
+use Rattle.defining.specs.declared.Defining.{Defining}
+use Rattle.defining.specs.declared.Defining.the-variants.{Defined, NotDefined}
 use Rattle.macros.specs.declared.Place.{Place}
 use Rattle.macros.specs.declared.Place.the-variants.{InVolatile, InSaved, Nowhere}
-use Rattle.macros.specs.Store.{threeBytes, definingOf, defineRefusal, storeAfter, Placed, placeOf, placed}
+use Rattle.macros.specs.Store.{threeBytes, Placed, placeOf, placed}
+use Rattle.defining.specs.Defining.{definingOf, defineRefusal, storeAfter}
 use Rattle.expansion.specs.declared.Expansion.{Expansion}
 use Rattle.expansion.specs.declared.Expansion.the-variants.{Expanded, NotExpanded}
 use Rattle.expansion.specs.Expansion.{Told, expansionOf, expandTold, expandOut}

@@ -1,11 +1,12 @@
 // The macro calls for programs in other languages (include/ardhrumesh.h): the answer is a number, and what goes with it is written to lent slots.
 ghost use mathlib.Core.Path.{_≡_};
 ghost use lib.ListN.{length};
-ghost use Rattle.macros.specs.Store.{threeBytes, defineRefusal, storeAfter, placed};
+ghost use Rattle.macros.specs.Store.{threeBytes, placed};
+ghost use Rattle.defining.specs.Defining.{defineRefusal, storeAfter};
 ghost use Rattle.expansion.specs.Expansion.{expandTold, expandOut};
 ghost use Rattle.macro_calls.specs.Slots.{placeFields, countFields};
+use defining::Defining;
 use expansion::Expansion;
-use macros::Defining;
 use macros::Place;
 
 // KD and KO
@@ -14,7 +15,7 @@ pub extern "C" fn ardh_define(store: &mut [u8], number: i32, contents: &[i32]) -
     ensures { λ r. ⌜ r ≡ defineRefusal threeBytes (now (store .entry)) number (now (contents .entry)) ⌝ }
     ensures { λ _. ⌜ now (store .exit) ≡ storeAfter threeBytes (now (store .entry)) number (now (contents .entry)) ⌝ }
 {
-    match macros::define(store, number, contents) {
+    match defining::define(store, number, contents) {
         Defining::Defined => 0,
         Defining::NotDefined(e) => refusals::number(e),
     }

@@ -1,28 +1,15 @@
--- Two conforming answers of a call on a store coincide. What is_well_formed and look_up give, and a store after a define, are fixed as they stand.
+-- Two conforming answers of a call that looks into stores coincide. What is_well_formed and look_up give is fixed as it stands.
 use Prim.Native.Nat.{ℕ}
 use mathlib.Core.Path.{_≡_, refl, ap}
 use lib.Dec.{eqb}
 use Rattle.refusals.specs.Answers.{pick}
 use Rattle.refusals.proofs.Numbers.{not-nought}
 use Rattle.refusals.proofs.Coinciding.{named, named-back, coincide}
-use Rattle.macros.specs.declared.Defining.{Defining}
-use Rattle.macros.specs.declared.Defining.the-variants.{Defined, NotDefined}
 use Rattle.macros.specs.declared.Finding.{Finding}
 use Rattle.macros.specs.declared.Finding.the-variants.{Found, NotFound}
 use Rattle.macros.specs.declared.Place.{Place}
 use Rattle.macros.specs.declared.Place.the-variants.{InVolatile, InSaved, Nowhere}
-use Rattle.macros.specs.Store.{definingOf, findingOf, Placed, placeOf}
-
-defining-back : ℕ → Defining
-defining-back k = pick (eqb k 0) Defined (NotDefined (named k))
-
-defining-same : (r : Defining) → defining-back (definingOf r) ≡ r
-unfolding definingOf defining-back
-defining-same Defined = refl
-defining-same (NotDefined e) = rw (not-nought e) (ap NotDefined (named-back e))
-
-pub definings-coincide : {x y : Defining} {d : ℕ} → definingOf x ≡ d → definingOf y ≡ d → x ≡ y
-definings-coincide = coincide definingOf defining-back defining-same
+use Rattle.macros.specs.Store.{findingOf, Placed, placeOf}
 
 finding-back : ℕ → Finding
 finding-back k = pick (eqb k 0) Found (NotFound (named k))

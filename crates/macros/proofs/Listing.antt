@@ -1,17 +1,16 @@
 -- Lists of entries in rising number, and the bytes that they are written as.
-use Prim.Native.Nat.{ℕ, zero, suc, _+_, _-_, _≤_, _<_}
+use Prim.Native.Nat.{ℕ, zero, suc, _+_, _-_, _≤_}
 use mathlib.Core.Path.{_≡_, refl, sym, _∙_, ap, subst}
 use mathlib.Core.Bool.{Bool, true, false}
-use mathlib.Core.List.{List, [], _∷_, _++_, append-nil, append-assoc}
+use mathlib.Core.List.{List, [], _∷_, _++_, append-assoc}
 use native.Mathlib.Omega.{arith}
-use borrow.Author.Tests.{le-leb, lt-leb, le-ltb, lt-ltb, eq-eqb, ne-eqb, ltb-true, ltb-false, leb-true, eqb-false}
-use lib.Arith.{lt-of-le-ne}
-use lib.Dec.{leb, ltb, eqb}
+use borrow.Author.Tests.{le-leb, lt-leb, leb-true}
+use lib.Dec.{leb}
 use lib.ListN.{length, drop, replicate, length-append, length-replicate, length-drop, take-append-drop}
 use lib.Seq.{getD-drop, drop-drop, take-append-seam, drop-append-seam, drop-at}
-use Rattle.refusals.specs.Answers.{every, pick}
-use Rattle.refusals.proofs.Cases.{and-left, and-right, bool-apart}
-use Rattle.macros.specs.Store.{Entry, Layout, encoded, sizeOf, stored, areBody, areZeros, bodyIn, isEntry, entriesFrom, entries, wellFormed, Fits, Valid, keep, below, above, one, put, bodyOf}
+use Rattle.refusals.specs.Answers.{every}
+use Rattle.refusals.proofs.Cases.{and-left, and-right}
+use Rattle.macros.specs.Store.{Entry, Layout, encoded, sizeOf, stored, areBody, areZeros, bodyIn, isEntry, entriesFrom, entries, wellFormed, Fits, Valid}
 use Rattle.macros.specs.Fronts.{Bytes}
 use Rattle.macros.proofs.Layouts.{Lawful}
 use Rattle.macros.proofs.Reading.{stands, body-long, entryIn, behind, first-entry, no-entry, size-cons, and-no}
@@ -22,7 +21,7 @@ pub bytes-drop : (k : ℕ) (s : List ℕ) → Bytes s → Bytes (drop k s)
 unfolding Bytes
 bytes-drop k s h i = rw (getD-drop k s i 0) (h (k + i))
 
-weaker : (L : Layout) (least m : ℕ) (es : List Entry) → m ≤ least → Valid L least es → Valid L m es
+pub weaker : (L : Layout) (least m : ℕ) (es : List Entry) → m ≤ least → Valid L least es → Valid L m es
 unfolding Valid
 weaker L least m [] h v = tt
 weaker L least m (e ∷ es) h v =
@@ -201,163 +200,3 @@ module _ (L : Layout) (lawful : Lawful L) where
   formed-stored s h e =
       sym (whole-store s h)
       ∙ ap (λ (l : List ℕ). encoded L (entries L s) ++ l) (only-zeros (drop (sizeOf L (entries L s)) s) e ∙ ap (λ (k : ℕ). replicate {A = ℕ} k 0) (length-drop (sizeOf L (entries L s)) s))
-
--- ---- entries by their numbers
-
-module _ (p : ℕ → Bool) where
-  pub keep-append : (xs ys : List Entry) → keep p (xs ++ ys) ≡ keep p xs ++ keep p ys
-  unfolding keep
-  keep-append [] ys = refl
-  keep-append (e ∷ xs) ys = go (p (e .number)) refl (keep-append xs ys)
-    where
-      go : (t : Bool) → p (e .number) ≡ t → keep p (xs ++ ys) ≡ keep p xs ++ keep p ys → keep p (e ∷ (xs ++ ys)) ≡ keep p (e ∷ xs) ++ keep p ys
-      go true q h = simp q (ap (λ (l : List Entry). e ∷ l) h)
-      go false q h = simp q h
-
-  keep-valid : (L : Layout) (least : ℕ) (es : List Entry) → Valid L least es → Valid L least (keep p es)
-  unfolding Valid keep
-  keep-valid L least [] v = tt
-  keep-valid L least (e ∷ es) v = go (p (e .number)) refl (keep-valid L (e .number + 1) es (v .1))
-    where
-      go : (t : Bool) → p (e .number) ≡ t → Valid L (e .number + 1) (keep p es) → Valid L least (keep p (e ∷ es))
-      go true q h = simp q (v .0, h)
-      go false q h = simp q (weaker L (e .number + 1) least (keep p es) (omega (arith, v .0 .rising)) h)
-
-module _ (L : Layout) (n : ℕ) where
-  above-valid : (least : ℕ) (es : List Entry) → Valid L least es → Valid L (n + 1) (above n es)
-  unfolding Valid keep
-  above-valid least [] v = tt
-  above-valid least (e ∷ es) v = go (ltb n (e .number)) refl (above-valid (e .number + 1) es (v .1))
-    where
-      go : (t : Bool) → ltb n (e .number) ≡ t → Valid L (n + 1) (above n es) → Valid L (n + 1) (above n (e ∷ es))
-      go true q h =
-          let f = v .0 in
-          simp q (record { rising = omega (arith, ltb-true n (e .number) q); small = f .small; some = f .some; most = f .most; bytes = f .bytes }, keep-valid (λ x. ltb n x) L (e .number + 1) es (v .1))
-      go false q h = simp q h
-
-  none-below : (least : ℕ) (es : List Entry) → n ≤ least → Valid L least es → below n es ≡ []
-  unfolding Valid keep
-  none-below least [] h v = refl
-  none-below least (e ∷ es) h v = simp (le-ltb (e .number) n (omega (arith, v .0 .rising))) (none-below (e .number + 1) es (omega (arith, v .0 .rising)) (v .1))
-
-  all-from : (least : ℕ) (es : List Entry) → n ≤ least → Valid L least es → keep (λ x. leb n x) es ≡ es
-  unfolding Valid keep
-  all-from least [] h v = refl
-  all-from least (e ∷ es) h v =
-      simp (le-leb n (e .number) (omega (arith, v .0 .rising))) (ap (λ (l : List Entry). e ∷ l) (all-from (e .number + 1) es (omega (arith, v .0 .rising)) (v .1)))
-
-  -- those below a number, and those from it on
-  pub parted : (least : ℕ) (es : List Entry) → Valid L least es → below n es ++ keep (λ x. leb n x) es ≡ es
-  unfolding Valid keep
-  parted least [] v = refl
-  parted least (e ∷ es) v = go (ltb (e .number) n) refl (parted (e .number + 1) es (v .1))
-    where
-      go : (t : Bool) → ltb (e .number) n ≡ t → below n es ++ keep (λ x. leb n x) es ≡ es → below n (e ∷ es) ++ keep (λ x. leb n x) (e ∷ es) ≡ e ∷ es
-      go true q r = simp (q, lt-leb n (e .number) (ltb-true (e .number) n q)) (ap (λ (l : List Entry). e ∷ l) r)
-      go false q r =
-          let h : n ≤ e .number = ltb-false (e .number) n q in
-          simp (q, le-leb n (e .number) h, none-below (e .number + 1) es (omega (arith, h)) (v .1), all-from (e .number + 1) es (omega (arith, h)) (v .1))
-
-  all-above : (least : ℕ) (es : List Entry) → n < least → Valid L least es → above n es ≡ es
-  unfolding Valid keep
-  all-above least [] h v = refl
-  all-above least (e ∷ es) h v =
-      simp (lt-ltb n (e .number) (omega (arith, h, v .0 .rising))) (ap (λ (l : List Entry). e ∷ l) (all-above (e .number + 1) es (omega (arith, h, v .0 .rising)) (v .1)))
-
-  -- deleting what is not there leaves the entries as they are
-  pub put-nothing : (least : ℕ) (es : List Entry) → Valid L least es → bodyOf n es ≡ [] → put n [] es ≡ es
-  unfolding Valid keep bodyOf
-  put-nothing least [] v a = refl
-  put-nothing least (e ∷ es) v a = go (ltb (e .number) n) (eqb (e .number) n) refl refl (put-nothing (e .number + 1) es (v .1))
-    where
-      go : (t u : Bool) → ltb (e .number) n ≡ t → eqb (e .number) n ≡ u → (bodyOf n es ≡ [] → put n [] es ≡ es) → put n [] (e ∷ es) ≡ e ∷ es
-      go t true q w again = let z : length (e .body) ≡ 0 = ap length (rw w at a) in absurd (omega (arith, z, v .0 .some))
-      go true false q w again =
-          let l : e .number < n = ltb-true (e .number) n q in
-          simp (q, le-ltb n (e .number) (omega (arith, l))) (ap (λ (l : List Entry). e ∷ l) (again (rw w at a)))
-      go false false q w again =
-          let l : n < e .number = lt-of-le-ne (ltb-false (e .number) n q) (λ z. eqb-false (e .number) n w (sym z)) in
-          simp (q, lt-ltb n (e .number) l, none-below (e .number + 1) es (omega (arith, l)) (v .1), all-above (e .number + 1) es (omega (arith, l)) (v .1))
-
--- ---- one macro put in its place
-
-module _ (L : Layout) (n : ℕ) (b : List ℕ) (hn : n ≤ 32767) (hl : length b ≤ L .longest) (hb : areBody b ≡ true) where
-  one-valid : (least : ℕ) (ys : List Entry) → least ≤ n → Valid L (n + 1) ys → Valid L least (one n b ++ ys)
-  unfolding Valid
-  one-valid least ys h v = go b hl hb
-    where
-      go : (x : List ℕ) → length x ≤ L .longest → areBody x ≡ true → Valid L least (one n x ++ ys)
-      go [] l a = weaker L (n + 1) least ys (omega (arith, h)) v
-      go (y ∷ x) l a = (record { rising = h; small = hn; some = omega arith; most = l; bytes = a }, v)
-
-  in-place : (least : ℕ) (es ys : List Entry) → least ≤ n → Valid L least es → Valid L (n + 1) ys → Valid L least (below n es ++ (one n b ++ ys))
-  unfolding Valid keep
-  in-place least [] ys h v w = one-valid least ys h w
-  in-place least (e ∷ es) ys h v w = go (ltb (e .number) n) refl (λ m l u. in-place m es ys l u w)
-    where
-      go : (t : Bool) → ltb (e .number) n ≡ t → ((m : ℕ) → m ≤ n → Valid L m es → Valid L m (below n es ++ (one n b ++ ys))) → Valid L least (below n (e ∷ es) ++ (one n b ++ ys))
-      go true q again = simp q (v .0, again (e .number + 1) (omega (arith, ltb-true (e .number) n q)) (v .1))
-      go false q again = simp q (again least h (weaker L (e .number + 1) least es (omega (arith, v .0 .rising)) (v .1)))
-
-  pub put-valid : (es : List Entry) → Valid L 0 es → Valid L 0 (put n b es)
-  put-valid es v = in-place 0 es (above n es) (omega arith) v (above-valid L n 0 es v)
-
-new-body : (m : ℕ) (x : List ℕ) (ys : List Entry) → bodyOf m ys ≡ [] → bodyOf m (one m x ++ ys) ≡ x
-unfolding bodyOf
-new-body m [] ys e = e
-new-body m (y ∷ x) ys e = simp (eq-eqb m m refl)
-
--- a macro that is not among them, and one that is
-module _ (m : ℕ) where
-  body-left : (xs ys : List Entry) → bodyOf m ys ≡ [] → bodyOf m (xs ++ ys) ≡ bodyOf m xs
-  unfolding bodyOf
-  body-left [] ys e = e
-  body-left (x ∷ xs) ys e = ap (λ (l : List ℕ). pick (eqb (x .number) m) (x .body) l) (body-left xs ys e)
-
-  body-right : (p : ℕ → Bool) → p m ≡ false → (es ys : List Entry) → bodyOf m (keep p es ++ ys) ≡ bodyOf m ys
-  unfolding bodyOf keep
-  body-right p h [] ys = refl
-  body-right p h (e ∷ es) ys = go (p (e .number)) refl (body-right p h es ys)
-    where
-      go : (t : Bool) → p (e .number) ≡ t → bodyOf m (keep p es ++ ys) ≡ bodyOf m ys → bodyOf m (keep p (e ∷ es) ++ ys) ≡ bodyOf m ys
-      go true q r = simp (q, ne-eqb (e .number) m (λ z. bool-apart (sym (ap p z ∙ h) ∙ q))) r
-      go false q r = simp q r
-
-  body-kept : (p : ℕ → Bool) → p m ≡ true → (es : List Entry) → bodyOf m (keep p es) ≡ bodyOf m es
-  unfolding bodyOf keep
-  body-kept p h [] = refl
-  body-kept p h (e ∷ es) = go (p (e .number)) refl (body-kept p h es)
-    where
-      go : (t : Bool) → p (e .number) ≡ t → bodyOf m (keep p es) ≡ bodyOf m es → bodyOf m (keep p (e ∷ es)) ≡ bodyOf m (e ∷ es)
-      go true q r = simp q (ap (λ (l : List ℕ). pick (eqb (e .number) m) (e .body) l) r)
-      go false q r = simp (q, ne-eqb (e .number) m (λ z. bool-apart (sym q ∙ ap p z ∙ h))) r
-
-  body-one : (n : ℕ) (b : List ℕ) → (n ≡ m → ⊥) → (ys : List Entry) → bodyOf m (one n b ++ ys) ≡ bodyOf m ys
-  unfolding bodyOf
-  body-one n [] h ys = refl
-  body-one n (x ∷ b) h ys = simp (ne-eqb n m h)
-
-  dropped : (p : ℕ → Bool) → p m ≡ false → (es : List Entry) → bodyOf m (keep p es) ≡ []
-  unfolding bodyOf
-  dropped p h es = ap (bodyOf m) (sym (append-nil (keep p es))) ∙ body-right p h es []
-
-  -- the new body is found
-  pub put-found : (b : List ℕ) (es : List Entry) → bodyOf m (put m b es) ≡ b
-  put-found b es = body-right (λ x. ltb x m) (le-ltb m m (omega arith)) es (one m b ++ above m es) ∙ new b
-    where
-      new : (x : List ℕ) → bodyOf m (one m x ++ above m es) ≡ x
-      new x = new-body m x (above m es) (dropped (λ y. ltb m y) (le-ltb m m (omega arith)) es)
-
-  -- and every other as before
-  pub put-others : (n : ℕ) (b : List ℕ) (es : List Entry) → (n ≡ m → ⊥) → bodyOf m (put n b es) ≡ bodyOf m es
-  put-others n b es h = go (ltb m n) refl
-    where
-      go : (t : Bool) → ltb m n ≡ t → bodyOf m (put n b es) ≡ bodyOf m es
-      go true q =
-          let l : m < n = ltb-true m n q in
-          body-left (below n es) (one n b ++ above n es) (body-one n b h (above n es) ∙ dropped (λ x. ltb n x) (le-ltb n m (omega (arith, l))) es)
-          ∙ body-kept (λ x. ltb x n) q es
-      go false q =
-          body-right (λ x. ltb x n) q es (one n b ++ above n es)
-          ∙ body-one n b h (above n es)
-          ∙ body-kept (λ x. ltb n x) (lt-ltb n m (lt-of-le-ne (ltb-false m n q) h)) es

@@ -1,5 +1,5 @@
 -- Where a body stands in the bytes of a store: behind the entries below its number, and its header.
-use Prim.Native.Nat.{ℕ, zero, suc, _+_, _-_, _≤_, _<_}
+use Prim.Native.Nat.{ℕ, zero, suc, _+_, _≤_, _<_}
 use mathlib.Core.Path.{_≡_, refl, sym, _∙_, ap}
 use mathlib.Core.Bool.{Bool, true, false, _&&_}
 use mathlib.Core.List.{List, [], _∷_}
@@ -12,8 +12,7 @@ use lib.Seq.{drop-drop}
 use lib.IntN.{ℤ, natAbs}
 use Rattle.refusals.proofs.Cases.{by-pick}
 use Rattle.refusals.proofs.Numbers.{met}
-use Rattle.macros.specs.Store.{Entry, Layout, sizeOf, bodyIn, isEntry, entriesFrom, entries, wellFormed, keep, below, isNumber, bodyOf, orElse, bodyInEither, lookRefusal, findRefusal, lookedUp, Placed, placed, storeNamed}
-use Rattle.macros.specs.Fronts.{roomFor}
+use Rattle.macros.specs.Store.{Entry, Layout, sizeOf, bodyIn, isEntry, entriesFrom, entries, wellFormed, keep, below, isNumber, bodyOf, orElse, bodyInEither, lookRefusal, findRefusal, lookedUp, Placed, placed, storeNamed, roomFor}
 use Rattle.macros.proofs.Layouts.{Lawful}
 use Rattle.macros.proofs.Reading.{stands, body-long, entryIn, behind, size-cons, size-nil, keep-yes, keep-no, keep-nil}
 

@@ -24,10 +24,10 @@ use Rattle.macros.specs.declared.Survey.the-variants.{Formed, Malformed}
 use Rattle.macros.specs.declared.Place.{Place}
 use Rattle.macros.specs.declared.Place.the-variants.{InVolatile, InSaved, Nowhere}
 use Rattle.macros.specs.declared.Finding.the-variants.{Found, NotFound}
-use Rattle.macros.specs.Store.{Layout, sizeOf, below, entries, wellFormed, isNumber, bodyOf, bodyInEither, lookRefusal, findRefusal, lookedUp, findingOf, Placed, placed, storeNamed, placeOf}
-use Rattle.macros.specs.Fronts.{GapIs, FormedIs, SurveyIs, roomFor}
+use Rattle.macros.specs.Store.{Layout, sizeOf, below, entries, wellFormed, isNumber, bodyOf, bodyInEither, lookRefusal, findRefusal, lookedUp, findingOf, Placed, placed, storeNamed, placeOf, roomFor}
+use Rattle.macros.specs.Fronts.{GapIs, FormedIs, SurveyIs}
 use Rattle.macros.proofs.Layouts.{Lawful, three-size, three-lawful}
-use Rattle.macros.proofs.Placing.{room-none, room-some}
+use Rattle.macros.proofs.Reading.{room-none, room-some}
 use Rattle.macros.proofs.Fronts.{formed-of, malformed-of}
 use Rattle.macros.proofs.Locations.{stand, either-first, either-second, placed-number, located-part, located-inside}
 

@@ -5,12 +5,12 @@ use mathlib.Core.Bool.{Bool, true, false, _&&_}
 use mathlib.Core.List.{List, [], _∷_, _++_}
 use native.Mathlib.Omega.{arith}
 use native.Mathlib.Numerals.{sub-one}
-use borrow.Author.Tests.{leb-true}
+use borrow.Author.Tests.{leb-true, eq-eqb, ne-eqb}
 use lib.Dec.{leb}
 use lib.ListN.{length, drop, length-take, length-drop, length-append}
 use lib.Seq.{drop-drop}
 use Rattle.refusals.proofs.Cases.{and-left, and-right}
-use Rattle.macros.specs.Store.{Entry, Layout, encoded, sizeOf, areBody, bodyIn, isEntry, entriesFrom, entries, keep}
+use Rattle.macros.specs.Store.{Entry, Layout, encoded, sizeOf, areBody, bodyIn, isEntry, entriesFrom, entries, keep, roomFor}
 use Rattle.macros.proofs.Layouts.{Lawful}
 
 -- ---- one entry
@@ -125,6 +125,20 @@ module _ (L : Layout) (lawful : Lawful L) where
 pub size-nil : (L : Layout) → sizeOf L [] ≡ 0
 unfolding encoded
 size-nil L = refl
+
+-- ---- the room of an entry
+
+module _ (L : Layout) (count : ℕ) where
+  pub room-none : count ≡ 0 → 0 ≡ roomFor L count
+  unfolding roomFor
+  room-none e = rw (eq-eqb count 0 e)
+
+  pub room-some : {size : ℕ} → size ≡ L .size → (count ≡ 0 → ⊥) → size + count ≡ roomFor L count
+  unfolding roomFor
+  room-some e h = rw (ne-eqb count 0 h, e)
+
+  pub room-header : {size : ℕ} (at n : ℕ) → size ≡ L .size → (count ≡ 0 → ⊥) → at + roomFor L count ≤ n → at + size ≤ n
+  room-header at n e h g = omega (arith, room-some e h, g)
 
 -- ---- entries by their numbers
 

@@ -1,16 +1,14 @@
--- "Macros": a store as a list of entries and as bytes, and what defining and looking up make of it.
+-- "Macros": a store as a list of entries and as bytes, and what looking up makes of it.
 use Prim.Native.Nat.{ℕ, zero, suc, _+_, _-_, _*_, _/_, _%_, _≤_}
 use mathlib.Core.Path.{_≡_}
 use mathlib.Core.Bool.{Bool, true, _&&_}
-use mathlib.Core.List.{List, [], _∷_, _++_, map}
+use mathlib.Core.List.{List, [], _∷_, _++_}
 use lib.ListN.{length, getD, take, drop, replicate}
 use lib.Dec.{leb, ltb, eqb}
 use lib.IntN.{ℤ, natAbs}
 use Rattle.refusals.specs.Refusals.{numberOf}
 use Rattle.refusals.specs.Answers.{pick, demand, every}
 use Rattle.ranges.specs.Ranges.{within}
-use Rattle.macros.specs.declared.Defining.{Defining}
-use Rattle.macros.specs.declared.Defining.the-variants.{Defined, NotDefined}
 use Rattle.macros.specs.declared.Finding.{Finding}
 use Rattle.macros.specs.declared.Finding.the-variants.{Found, NotFound}
 use Rattle.macros.specs.declared.Place.{Place}
@@ -126,53 +124,18 @@ keep p (e ∷ es) = pick (p (e .number)) (e ∷ keep p es) (keep p es)
 abbrev pub below : ℕ → List Entry → List Entry
 below n es = keep (λ x. ltb x n) es
 
-abbrev pub above : ℕ → List Entry → List Entry
-above n es = keep (λ x. ltb n x) es
-
--- "An empty array deletes"
-abbrev pub one : ℕ → List ℕ → List Entry
-one n [] = []
-one n (b ∷ bs) = record { number = n; body = b ∷ bs } ∷ []
-
--- "A new body replaces the old one": the entries below the number, the new one, and the entries above it
-abbrev pub put : ℕ → List ℕ → List Entry → List Entry
-put n body es = below n es ++ (one n body ++ above n es)
-
 -- the body of a macro; none where it is absent, since a body has at least one byte
 unfoldable pub bodyOf : ℕ → List Entry → List ℕ
 bodyOf n [] = []
 bodyOf n (e ∷ es) = pick (eqb (e .number) n) (e .body) (bodyOf n es)
 
--- ---- defining
-
--- "Numbers 0..32767, contents 0..127, at most 256 of them, else 8."
+-- "Numbers 0..32767"
 abbrev pub isNumber : ℤ → Bool
 isNumber n = within 0 32767 n
 
-unfoldable pub mayDefine : Layout → ℤ → List ℤ → Bool
-mayDefine L n contents = isNumber n && (leb (length contents) (L .longest) && every (within 0 127) contents)
-
--- the new entries
-abbrev pub entriesAfter : Layout → List ℕ → ℤ → List ℤ → List Entry
-entriesAfter L s n contents = put (natAbs n) (map natAbs contents) (entries L s)
-
--- "Order: 12, 8", and then what comes next
-unfoldable pub beforeRoom : Layout → List ℕ → ℤ → List ℤ → (next : ℕ) → ℕ
-beforeRoom L s n contents next = demand (wellFormed L s) 12 (demand (mayDefine L n contents) 8 next)
-
--- "13 is given exactly if the new entries together exceed the store"
-unfoldable pub defineRefusal : Layout → List ℕ → ℤ → List ℤ → ℕ
-defineRefusal L s n contents = beforeRoom L s n contents (demand (leb (sizeOf L (entriesAfter L s n contents)) (length s)) 13 0)
-
--- refused, the store is as it was
-unfoldable pub storeAfter : Layout → List ℕ → ℤ → List ℤ → List ℕ
-storeAfter L s n contents =
-    pick (eqb (defineRefusal L s n contents) 0) (stored L (length s) (entriesAfter L s n contents)) s
-
--- what the answer says: 0 or the refusal's number
-unfoldable pub definingOf : Defining → ℕ
-definingOf Defined = 0
-definingOf (NotDefined e) = numberOf e
+-- the bytes of an entry with a body of so many; a macro with no body has none
+unfoldable pub roomFor : Layout → (count : ℕ) → ℕ
+roomFor L count = pick (eqb count 0) 0 (L .size + count)
 
 -- ---- looking up
 
