@@ -13,13 +13,13 @@ use Rattle.refusals.proofs.Cases.{and-left, and-right}
 use Rattle.refusals.proofs.Numbers.{met}
 use Rattle.ranges.specs.Ranges.{within}
 use Rattle.ranges.proofs.Entries.{within-range}
-use Rattle.macros.specs.Store.{Layout, sizeOf, stored, areBody, entries, wellFormed, Valid, bodyOf, isNumber, orElse, lookedUp}
+use Rattle.macros.specs.Store.{Layout, sizeOf, stored, areBody, entries, wellFormed, Rising, bodyOf, isMacroNumber, orElse, lookedUp}
 use Rattle.macros.specs.Fronts.{Bytes}
 use Rattle.macros.proofs.Layouts.{Lawful}
-use Rattle.macros.proofs.Listing.{entries-valid, size-inside, stored-long, formed-stored}
+use Rattle.macros.proofs.Listing.{entries-rising, size-inside, stored-long, formed-stored}
 use Rattle.macros.proofs.Stores.{Holds, holds-formed, holds-entries, looked-alike, looked-so}
 use Rattle.defining.specs.Defining.{mayDefine, entriesAfter, beforeRoom, defineRefusal, storeAfter}
-use Rattle.defining.proofs.Putting.{put-valid, put-nothing, put-found, put-others}
+use Rattle.defining.proofs.Putting.{put-rising, put-nothing, put-found, put-others}
 
 -- ---- an accepted define
 
@@ -49,17 +49,17 @@ module _ (L : Layout) (s : List ℕ) (n : ℤ) (cs : List ℤ) (done : defineRef
   after-is = rw done
 
   module _ (lawful : Lawful L) (bytes : Bytes s) where
-    new-valid : Valid L 0 (entriesAfter L s n cs)
+    new-rising : Rising L 0 (entriesAfter L s n cs)
     unfolding mayDefine
-    new-valid =
+    new-rising =
         let ok = tests .1 .0 in
-        let ok₁ = and-right (isNumber n) (leb (length cs) (L .longest) && every (within 0 127) cs) ok in
-        put-valid L (natAbs n) (map natAbs cs)
-        (within-range 0 32767 n (and-left (isNumber n) (leb (length cs) (L .longest) && every (within 0 127) cs) ok) .1 .0)
+        let ok₁ = and-right (isMacroNumber n) (leb (length cs) (L .longest) && every (within 0 127) cs) ok in
+        put-rising L (natAbs n) (map natAbs cs)
+        (within-range 0 32767 n (and-left (isMacroNumber n) (leb (length cs) (L .longest) && every (within 0 127) cs) ok) .1 .0)
         (omega (arith, length-map cs natAbs, leb-true (length cs) (L .longest) (and-left (leb (length cs) (L .longest)) (every (within 0 127) cs) ok₁)))
         (contents-body cs (and-right (leb (length cs) (L .longest)) (every (within 0 127) cs) ok₁))
         (entries L s)
-        (entries-valid L lawful s bytes)
+        (entries-rising L lawful s bytes)
 
     pub long-after : length (storeAfter L s n cs) ≡ length s
     long-after = ap length after-is ∙ stored-long L lawful (length s) (entriesAfter L s n cs) new-fits
@@ -67,7 +67,7 @@ module _ (L : Layout) (s : List ℕ) (n : ℤ) (cs : List ℤ) (done : defineRef
     -- leaves a store that holds the new entries
     pub holds-after : Holds L (storeAfter L s n cs) (entriesAfter L s n cs)
     holds-after = record {
-      valid = new-valid;
+      rising = new-rising;
       fit = omega (arith, long-after, new-fits);
       is = after-is ∙ ap (λ (k : ℕ). stored L k (entriesAfter L s n cs)) (sym long-after);
     }
@@ -86,9 +86,9 @@ module _ (L : Layout) (s : List ℕ) (n : ℤ) (cs : List ℤ) (done : defineRef
     others-after m h = ap (bodyOf m) entries-after ∙ put-others m (natAbs n) (map natAbs cs) (entries L s) h
 
 -- "deleting what isn't there is done and changes nothing"
-module _ (L : Layout) (lawful : Lawful L) (s : List ℕ) (n : ℤ) (bytes : Bytes s) (formed : wellFormed L s ≡ true) (number : isNumber n ≡ true) (absent : bodyOf (natAbs n) (entries L s) ≡ []) where
+module _ (L : Layout) (lawful : Lawful L) (s : List ℕ) (n : ℤ) (bytes : Bytes s) (formed : wellFormed L s ≡ true) (number : isMacroNumber n ≡ true) (absent : bodyOf (natAbs n) (entries L s) ≡ []) where
   same-entries : entriesAfter L s n [] ≡ entries L s
-  same-entries = put-nothing L (natAbs n) 0 (entries L s) (entries-valid L lawful s bytes) absent
+  same-entries = put-nothing L (natAbs n) 0 (entries L s) (entries-rising L lawful s bytes) absent
 
   pub deleted-nothing : defineRefusal L s n [] ≡ 0
   unfolding defineRefusal beforeRoom mayDefine every
@@ -114,9 +114,9 @@ module _ (L : Layout) (lawful : Lawful L) (s : List ℕ) (n : ℤ) (cs : List �
   pub others-saved : (volatile : List ℕ) (m : ℤ) → (natAbs n ≡ natAbs m → ⊥) → lookedUp L volatile after m ≡ lookedUp L volatile s m
   others-saved volatile m h = looked-alike L volatile volatile after s m refl formed-alike refl (others-after L s n cs done lawful bytes (natAbs m) h)
 
-  in-range : isNumber n ≡ true
+  in-range : isMacroNumber n ≡ true
   unfolding mayDefine
-  in-range = and-left (isNumber n) _ (tests L s n cs done .1 .0)
+  in-range = and-left (isMacroNumber n) _ (tests L s n cs done .1 .0)
 
   -- the macro itself is looked up anew: in the volatile store first, and where its contents are none there, in the saved one
   pub defined-volatile : (saved : List ℕ) → wellFormed L saved ≡ true → lookedUp L after saved n ≡ orElse (map natAbs cs) (bodyOf (natAbs n) (entries L saved))

@@ -10,48 +10,48 @@ use lib.Dec.{leb, ltb, eqb}
 use lib.ListN.{length}
 use Rattle.refusals.specs.Answers.{pick}
 use Rattle.refusals.proofs.Cases.{bool-apart}
-use Rattle.macros.specs.Store.{Entry, Layout, areBody, Valid, keep, below, bodyOf}
+use Rattle.macros.specs.Store.{Entry, Layout, areBody, Rising, keep, below, bodyOf}
 use Rattle.macros.proofs.Listing.{weaker}
 use Rattle.defining.specs.Defining.{above, one, put}
 
 -- ---- entries by their numbers
 
 module _ (p : ℕ → Bool) where
-  keep-valid : (L : Layout) (least : ℕ) (es : List Entry) → Valid L least es → Valid L least (keep p es)
-  unfolding Valid keep
-  keep-valid L least [] v = tt
-  keep-valid L least (e ∷ es) v = go (p (e .number)) refl (keep-valid L (e .number + 1) es (v .1))
+  keep-rising : (L : Layout) (least : ℕ) (es : List Entry) → Rising L least es → Rising L least (keep p es)
+  unfolding Rising keep
+  keep-rising L least [] v = tt
+  keep-rising L least (e ∷ es) v = go (p (e .number)) refl (keep-rising L (e .number + 1) es (v .1))
     where
-      go : (t : Bool) → p (e .number) ≡ t → Valid L (e .number + 1) (keep p es) → Valid L least (keep p (e ∷ es))
+      go : (t : Bool) → p (e .number) ≡ t → Rising L (e .number + 1) (keep p es) → Rising L least (keep p (e ∷ es))
       go true q h = simp q (v .0, h)
       go false q h = simp q (weaker L (e .number + 1) least (keep p es) (omega (arith, v .0 .rising)) h)
 
 module _ (L : Layout) (n : ℕ) where
-  above-valid : (least : ℕ) (es : List Entry) → Valid L least es → Valid L (n + 1) (above n es)
-  unfolding Valid keep
-  above-valid least [] v = tt
-  above-valid least (e ∷ es) v = go (ltb n (e .number)) refl (above-valid (e .number + 1) es (v .1))
+  above-rising : (least : ℕ) (es : List Entry) → Rising L least es → Rising L (n + 1) (above n es)
+  unfolding Rising keep
+  above-rising least [] v = tt
+  above-rising least (e ∷ es) v = go (ltb n (e .number)) refl (above-rising (e .number + 1) es (v .1))
     where
-      go : (t : Bool) → ltb n (e .number) ≡ t → Valid L (n + 1) (above n es) → Valid L (n + 1) (above n (e ∷ es))
+      go : (t : Bool) → ltb n (e .number) ≡ t → Rising L (n + 1) (above n es) → Rising L (n + 1) (above n (e ∷ es))
       go true q h =
           let f = v .0 in
-          simp q (record { rising = omega (arith, ltb-true n (e .number) q); small = f .small; some = f .some; most = f .most; bytes = f .bytes }, keep-valid (λ x. ltb n x) L (e .number + 1) es (v .1))
+          simp q (record { rising = omega (arith, ltb-true n (e .number) q); small = f .small; some = f .some; most = f .most; bytes = f .bytes }, keep-rising (λ x. ltb n x) L (e .number + 1) es (v .1))
       go false q h = simp q h
 
-  none-below : (least : ℕ) (es : List Entry) → n ≤ least → Valid L least es → below n es ≡ []
-  unfolding Valid keep
+  none-below : (least : ℕ) (es : List Entry) → n ≤ least → Rising L least es → below n es ≡ []
+  unfolding Rising keep
   none-below least [] h v = refl
   none-below least (e ∷ es) h v = simp (le-ltb (e .number) n (omega (arith, v .0 .rising))) (none-below (e .number + 1) es (omega (arith, v .0 .rising)) (v .1))
 
-  all-from : (least : ℕ) (es : List Entry) → n ≤ least → Valid L least es → keep (λ x. leb n x) es ≡ es
-  unfolding Valid keep
+  all-from : (least : ℕ) (es : List Entry) → n ≤ least → Rising L least es → keep (λ x. leb n x) es ≡ es
+  unfolding Rising keep
   all-from least [] h v = refl
   all-from least (e ∷ es) h v =
       simp (le-leb n (e .number) (omega (arith, v .0 .rising))) (ap (λ (l : List Entry). e ∷ l) (all-from (e .number + 1) es (omega (arith, v .0 .rising)) (v .1)))
 
   -- those below a number, and those from it on
-  pub parted : (least : ℕ) (es : List Entry) → Valid L least es → below n es ++ keep (λ x. leb n x) es ≡ es
-  unfolding Valid keep
+  pub parted : (least : ℕ) (es : List Entry) → Rising L least es → below n es ++ keep (λ x. leb n x) es ≡ es
+  unfolding Rising keep
   parted least [] v = refl
   parted least (e ∷ es) v = go (ltb (e .number) n) refl (parted (e .number + 1) es (v .1))
     where
@@ -61,15 +61,15 @@ module _ (L : Layout) (n : ℕ) where
           let h : n ≤ e .number = ltb-false (e .number) n q in
           simp (q, le-leb n (e .number) h, none-below (e .number + 1) es (omega (arith, h)) (v .1), all-from (e .number + 1) es (omega (arith, h)) (v .1))
 
-  all-above : (least : ℕ) (es : List Entry) → n < least → Valid L least es → above n es ≡ es
-  unfolding Valid keep
+  all-above : (least : ℕ) (es : List Entry) → n < least → Rising L least es → above n es ≡ es
+  unfolding Rising keep
   all-above least [] h v = refl
   all-above least (e ∷ es) h v =
       simp (lt-ltb n (e .number) (omega (arith, h, v .0 .rising))) (ap (λ (l : List Entry). e ∷ l) (all-above (e .number + 1) es (omega (arith, h, v .0 .rising)) (v .1)))
 
   -- deleting what is not there leaves the entries as they are
-  pub put-nothing : (least : ℕ) (es : List Entry) → Valid L least es → bodyOf n es ≡ [] → put n [] es ≡ es
-  unfolding Valid keep bodyOf
+  pub put-nothing : (least : ℕ) (es : List Entry) → Rising L least es → bodyOf n es ≡ [] → put n [] es ≡ es
+  unfolding Rising keep bodyOf
   put-nothing least [] v a = refl
   put-nothing least (e ∷ es) v a = go (ltb (e .number) n) (eqb (e .number) n) refl refl (put-nothing (e .number + 1) es (v .1))
     where
@@ -85,25 +85,25 @@ module _ (L : Layout) (n : ℕ) where
 -- ---- one macro put in its place
 
 module _ (L : Layout) (n : ℕ) (b : List ℕ) (hn : n ≤ 32767) (hl : length b ≤ L .longest) (hb : areBody b ≡ true) where
-  one-valid : (least : ℕ) (ys : List Entry) → least ≤ n → Valid L (n + 1) ys → Valid L least (one n b ++ ys)
-  unfolding Valid
-  one-valid least ys h v = go b hl hb
+  one-rising : (least : ℕ) (ys : List Entry) → least ≤ n → Rising L (n + 1) ys → Rising L least (one n b ++ ys)
+  unfolding Rising
+  one-rising least ys h v = go b hl hb
     where
-      go : (x : List ℕ) → length x ≤ L .longest → areBody x ≡ true → Valid L least (one n x ++ ys)
+      go : (x : List ℕ) → length x ≤ L .longest → areBody x ≡ true → Rising L least (one n x ++ ys)
       go [] l a = weaker L (n + 1) least ys (omega (arith, h)) v
       go (y ∷ x) l a = (record { rising = h; small = hn; some = omega arith; most = l; bytes = a }, v)
 
-  in-place : (least : ℕ) (es ys : List Entry) → least ≤ n → Valid L least es → Valid L (n + 1) ys → Valid L least (below n es ++ (one n b ++ ys))
-  unfolding Valid keep
-  in-place least [] ys h v w = one-valid least ys h w
+  in-place : (least : ℕ) (es ys : List Entry) → least ≤ n → Rising L least es → Rising L (n + 1) ys → Rising L least (below n es ++ (one n b ++ ys))
+  unfolding Rising keep
+  in-place least [] ys h v w = one-rising least ys h w
   in-place least (e ∷ es) ys h v w = go (ltb (e .number) n) refl (λ m l u. in-place m es ys l u w)
     where
-      go : (t : Bool) → ltb (e .number) n ≡ t → ((m : ℕ) → m ≤ n → Valid L m es → Valid L m (below n es ++ (one n b ++ ys))) → Valid L least (below n (e ∷ es) ++ (one n b ++ ys))
+      go : (t : Bool) → ltb (e .number) n ≡ t → ((m : ℕ) → m ≤ n → Rising L m es → Rising L m (below n es ++ (one n b ++ ys))) → Rising L least (below n (e ∷ es) ++ (one n b ++ ys))
       go true q again = simp q (v .0, again (e .number + 1) (omega (arith, ltb-true (e .number) n q)) (v .1))
       go false q again = simp q (again least h (weaker L (e .number + 1) least es (omega (arith, v .0 .rising)) (v .1)))
 
-  pub put-valid : (es : List Entry) → Valid L 0 es → Valid L 0 (put n b es)
-  put-valid es v = in-place 0 es (above n es) (omega arith) v (above-valid L n 0 es v)
+  pub put-rising : (es : List Entry) → Rising L 0 es → Rising L 0 (put n b es)
+  put-rising es v = in-place 0 es (above n es) (omega arith) v (above-rising L n 0 es v)
 
 new-body : (m : ℕ) (x : List ℕ) (ys : List Entry) → bodyOf m ys ≡ [] → bodyOf m (one m x ++ ys) ≡ x
 unfolding bodyOf

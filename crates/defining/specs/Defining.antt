@@ -8,9 +8,9 @@ use lib.IntN.{ℤ, natAbs}
 use Rattle.refusals.specs.Refusals.{numberOf}
 use Rattle.refusals.specs.Answers.{pick, demand, every}
 use Rattle.ranges.specs.Ranges.{within}
-use Rattle.macros.specs.Store.{Entry, Layout, sizeOf, stored, entries, wellFormed, keep, below, isNumber}
+use Rattle.macros.specs.Store.{Entry, Layout, sizeOf, stored, entries, wellFormed, keep, below, isMacroNumber}
 use Rattle.defining.specs.declared.Defining.{Defining}
-use Rattle.defining.specs.declared.Defining.the-variants.{Defined, NotDefined}
+use Rattle.defining.specs.declared.Defining.the-variants as Defining
 
 -- ---- one macro put in its place
 
@@ -30,7 +30,7 @@ put n body es = below n es ++ (one n body ++ above n es)
 
 -- "Numbers 0..32767, contents 0..127, at most 256 of them, else 8."
 unfoldable pub mayDefine : Layout → ℤ → List ℤ → Bool
-mayDefine L n contents = isNumber n && (leb (length contents) (L .longest) && every (within 0 127) contents)
+mayDefine L n contents = isMacroNumber n && (leb (length contents) (L .longest) && every (within 0 127) contents)
 
 -- the new entries
 abbrev pub entriesAfter : Layout → List ℕ → ℤ → List ℤ → List Entry
@@ -51,8 +51,8 @@ storeAfter L s n contents =
 
 -- what the answer says: 0 or the refusal's number
 unfoldable pub definingOf : Defining → ℕ
-definingOf Defined = 0
-definingOf (NotDefined e) = numberOf e
+definingOf Defining.Defined = 0
+definingOf (Defining.Refused e) = numberOf e
 
 -- ---- the same of the macro's number and the bytes of its body
 

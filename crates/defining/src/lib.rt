@@ -9,7 +9,7 @@ ghost use lib.Seq.{sets};
 ghost use lib.IntN.{natAbs};
 ghost use Rattle.refusals.specs.Answers.{every};
 ghost use Rattle.ranges.specs.Ranges.{within};
-ghost use Rattle.macros.specs.Store.{threeBytes, encoded, roomFor};
+ghost use Rattle.macros.specs.Store.{threeBytes, encoded, entrySize};
 ghost use Rattle.macros.specs.Fronts.{GapIs};
 ghost use Rattle.defining.specs.Defining.{one, mayDefine, defineRefusal, storeAfter, definingOf, fitsIn, putIn};
 use macros::Gap;
@@ -20,7 +20,7 @@ use refusals::Refusal;
 
 pub enum Defining {
     Defined,
-    NotDefined(Refusal),
+    Refused(Refusal),
 }
 
 // ---- moving a stretch within a store
@@ -90,7 +90,7 @@ fn clear_from(store: &mut [u8], at: usize)
 // How many bytes the entry of a body takes; a macro with no body has none.
 fn entry_size(count: usize) -> usize
     requires { ⌜ count ≤ 256 ⌝ }
-    ensures { λ r. ⌜ r ≡ roomFor threeBytes count ⌝ }
+    ensures { λ r. ⌜ r ≡ entrySize threeBytes count ⌝ }
 {
     if count == 0 {
         return 0;
@@ -99,7 +99,7 @@ fn entry_size(count: usize) -> usize
 }
 
 fn write_entry(store: &mut [u8], at: usize, number: usize, contents: &[i32])
-    requires { ⌜ (at + roomFor threeBytes (length (now contents)) ≤ length (now store)) × (number ≤ 32767) ⌝ }
+    requires { ⌜ (at + entrySize threeBytes (length (now contents)) ≤ length (now store)) × (number ≤ 32767) ⌝ }
     requires { ⌜ (length (now contents) ≤ 256) × (every (within 0 127) (now contents) ≡ true) ⌝ }
     ensures { λ r. ⌜ now (store .exit) ≡ sets (now (store .entry)) at (encoded threeBytes (one number (map natAbs (now (contents .entry))))) ⌝ }
 {
@@ -155,13 +155,13 @@ pub fn define(store: &mut [u8], number: i32, contents: &[i32]) -> Defining
 {
     let n = numbers::magnitude(number) as usize;
     let Survey::Formed(gap) = macros::inspect(store, n) else {
-        return Defining::NotDefined(Refusal::StoreMalformed);
+        return Defining::Refused(Refusal::StoreMalformed);
     };
     if !may_define(number, contents) {
-        return Defining::NotDefined(Refusal::NotValid);
+        return Defining::Refused(Refusal::NotValid);
     }
     if rewrite(store, gap, n, contents) {
         return Defining::Defined;
     }
-    Defining::NotDefined(Refusal::StoreTooShort)
+    Defining::Refused(Refusal::StoreTooShort)
 }

@@ -17,7 +17,7 @@ pub extern "C" fn ardh_define(store: &mut [u8], number: i32, contents: &[i32]) -
 {
     match defining::define(store, number, contents) {
         Defining::Defined => 0,
-        Defining::NotDefined(e) => refusals::number(e),
+        Defining::Refused(e) => refusals::number(e),
     }
 }
 
@@ -32,15 +32,15 @@ pub extern "C" fn ardh_look_up<'a>(
     ensures { λ _. ⌜ now (place .exit) ≡ placeFields (placed threeBytes (now (volatile .entry)) (now (saved .entry)) number) ⌝ }
 {
     match macros::locate(volatile, saved, number) {
-        Place::InVolatile(from, long) => {
-            *place = [1, from, long];
+        Place::InVolatile(part) => {
+            *place = [1, part.offset, part.long];
             0
         }
-        Place::InSaved(from, long) => {
-            *place = [2, from, long];
+        Place::InSaved(part) => {
+            *place = [2, part.offset, part.long];
             0
         }
-        Place::Nowhere(e) => {
+        Place::Refused(e) => {
             *place = [0, 0, 0];
             refusals::number(e)
         }
@@ -60,11 +60,11 @@ pub extern "C" fn ardh_expand<'a>(
     ensures { λ _. ⌜ now (out .exit) ≡ expandOut (now (volatile .entry)) (now (saved .entry)) number (now (out .entry)) ⌝ }
 {
     match expansion::expand(volatile, saved, number, out) {
-        Expansion::Expanded(written, entered) => {
-            *counts = [written, entered];
+        Expansion::Expanded(come) => {
+            *counts = [come.written, come.entered];
             0
         }
-        Expansion::NotExpanded(e) => {
+        Expansion::Refused(e) => {
             *counts = [0, 0];
             refusals::number(e)
         }

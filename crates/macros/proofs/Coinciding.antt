@@ -6,30 +6,30 @@ use Rattle.refusals.specs.Answers.{pick}
 use Rattle.refusals.proofs.Numbers.{not-nought}
 use Rattle.refusals.proofs.Coinciding.{named, named-back, coincide}
 use Rattle.macros.specs.declared.Finding.{Finding}
-use Rattle.macros.specs.declared.Finding.the-variants.{Found, NotFound}
+use Rattle.macros.specs.declared.Finding.the-variants as Finding
 use Rattle.macros.specs.declared.Place.{Place}
-use Rattle.macros.specs.declared.Place.the-variants.{InVolatile, InSaved, Nowhere}
-use Rattle.macros.specs.Store.{findingOf, Placed, placeOf}
+use Rattle.macros.specs.declared.Place.the-variants as Place
+use Rattle.macros.specs.Store.{findingOf, Placed, bodyPlaceOf}
 
 finding-back : ℕ → Finding
-finding-back k = pick (eqb k 0) Found (NotFound (named k))
+finding-back k = pick (eqb k 0) Finding.Found (Finding.Refused (named k))
 
 finding-same : (r : Finding) → finding-back (findingOf r) ≡ r
 unfolding findingOf finding-back
-finding-same Found = refl
-finding-same (NotFound e) = rw (not-nought e) (ap NotFound (named-back e))
+finding-same Finding.Found = refl
+finding-same (Finding.Refused e) = rw (not-nought e) (ap Finding.Refused (named-back e))
 
 pub findings-coincide : {x y : Finding} {d : ℕ} → findingOf x ≡ d → findingOf y ≡ d → x ≡ y
 findings-coincide = coincide findingOf finding-back finding-same
 
 place-back : Placed → Place
-place-back p = pick (eqb (p .number) 0) (pick (eqb (p .store) 1) (InVolatile (p .offset) (p .long)) (InSaved (p .offset) (p .long))) (Nowhere (named (p .number)))
+place-back p = pick (eqb (p .number) 0) (pick (eqb (p .store) 1) (Place.InVolatile (record { offset = p .offset; long = p .long })) (Place.InSaved (record { offset = p .offset; long = p .long }))) (Place.Refused (named (p .number)))
 
-place-same : (r : Place) → place-back (placeOf r) ≡ r
-unfolding placeOf place-back
-place-same (InVolatile offset long) = refl
-place-same (InSaved offset long) = refl
-place-same (Nowhere e) = rw (not-nought e) (ap Nowhere (named-back e))
+place-same : (r : Place) → place-back (bodyPlaceOf r) ≡ r
+unfolding bodyPlaceOf place-back
+place-same (Place.InVolatile part) = refl
+place-same (Place.InSaved part) = refl
+place-same (Place.Refused e) = rw (not-nought e) (ap Place.Refused (named-back e))
 
-pub places-coincide : {x y : Place} {d : Placed} → placeOf x ≡ d → placeOf y ≡ d → x ≡ y
-places-coincide = coincide placeOf place-back place-same
+pub places-coincide : {x y : Place} {d : Placed} → bodyPlaceOf x ≡ d → bodyPlaceOf y ≡ d → x ≡ y
+places-coincide = coincide bodyPlaceOf place-back place-same

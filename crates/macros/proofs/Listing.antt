@@ -10,7 +10,7 @@ use lib.ListN.{length, drop, replicate, length-append, length-replicate, length-
 use lib.Seq.{getD-drop, drop-drop, take-append-seam, drop-append-seam, drop-at}
 use Rattle.refusals.specs.Answers.{every}
 use Rattle.refusals.proofs.Cases.{and-left, and-right}
-use Rattle.macros.specs.Store.{Entry, Layout, encoded, sizeOf, stored, areBody, areZeros, bodyIn, isEntry, entriesFrom, entries, wellFormed, Fits, Valid}
+use Rattle.macros.specs.Store.{Entry, Layout, encoded, sizeOf, stored, areBody, areZeros, bodyIn, isStoreEntry, frontEntries, entries, wellFormed, MayStand, Rising}
 use Rattle.macros.specs.Fronts.{Bytes}
 use Rattle.macros.proofs.Layouts.{Lawful}
 use Rattle.macros.proofs.Reading.{stands, body-long, entryIn, behind, first-entry, no-entry, size-cons, and-no}
@@ -21,15 +21,15 @@ pub bytes-drop : (k : ℕ) (s : List ℕ) → Bytes s → Bytes (drop k s)
 unfolding Bytes
 bytes-drop k s h i = rw (getD-drop k s i 0) (h (k + i))
 
-pub weaker : (L : Layout) (least m : ℕ) (es : List Entry) → m ≤ least → Valid L least es → Valid L m es
-unfolding Valid
+pub weaker : (L : Layout) (least m : ℕ) (es : List Entry) → m ≤ least → Rising L least es → Rising L m es
+unfolding Rising
 weaker L least m [] h v = tt
 weaker L least m (e ∷ es) h v =
     let f = v .0 in
     (record { rising = omega (arith, h, f .rising); small = f .small; some = f .some; most = f .most; bytes = f .bytes }, v .1)
 
-none-at-all : (L : Layout) (least : ℕ) (d : List ℕ) → entriesFrom L zero least d ≡ []
-unfolding entriesFrom
+none-at-all : (L : Layout) (least : ℕ) (d : List ℕ) → frontEntries L zero least d ≡ []
+unfolding frontEntries
 none-at-all L least d = refl
 
 all-zeros : (n : ℕ) → areZeros (replicate n 0) ≡ true
@@ -47,20 +47,20 @@ only-zeros (x ∷ l) e =
 
 module _ (L : Layout) (lawful : Lawful L) where
   -- the entries that are read are such a list
-  pub read-valid : (k least : ℕ) (d : List ℕ) → Bytes d → Valid L least (entriesFrom L k least d)
-  unfolding Valid entriesFrom
-  read-valid zero least d h = tt
-  read-valid (suc k) least d h = go (isEntry L least d) refl (λ d′ h′. read-valid k (L .numberIn d + 1) d′ h′)
+  pub read-rising : (k least : ℕ) (d : List ℕ) → Bytes d → Rising L least (frontEntries L k least d)
+  unfolding Rising frontEntries
+  read-rising zero least d h = tt
+  read-rising (suc k) least d h = go (isStoreEntry L least d) refl (λ d′ h′. read-rising k (L .numberIn d + 1) d′ h′)
     where
-      go : (t : Bool) → isEntry L least d ≡ t → ((d′ : List ℕ) → Bytes d′ → Valid L (L .numberIn d + 1) (entriesFrom L k (L .numberIn d + 1) d′)) → Valid L least (entriesFrom L (suc k) least d)
+      go : (t : Bool) → isStoreEntry L least d ≡ t → ((d′ : List ℕ) → Bytes d′ → Rising L (L .numberIn d + 1) (frontEntries L k (L .numberIn d + 1) d′)) → Rising L least (frontEntries L (suc k) least d)
       go true q again =
           let y = stands L least d q in
           let l = body-long L least d q in
           simp q (record { rising = y .rising; small = lawful .small d h; some = omega (arith, l, y .some); most = omega (arith, l, y .most); bytes = y .body }, again (behind L d) (bytes-drop (L .size + L .lengthIn d) d h))
       go false q again = simp q tt
 
-  pub entries-valid : (s : List ℕ) → Bytes s → Valid L 0 (entries L s)
-  entries-valid s h = read-valid (length s) 0 s h
+  pub entries-rising : (s : List ℕ) → Bytes s → Rising L 0 (entries L s)
+  entries-rising s h = read-rising (length s) 0 s h
 
   -- ---- entries that were read, written again
 
@@ -71,7 +71,7 @@ module _ (L : Layout) (lawful : Lawful L) where
   unfolding encoded
   splits-none d = refl
 
-  splits-one : (least : ℕ) (d : List ℕ) (es : List Entry) → Bytes d → isEntry L least d ≡ true → Splits es (behind L d) → Splits (entryIn L d ∷ es) d
+  splits-one : (least : ℕ) (d : List ℕ) (es : List Entry) → Bytes d → isStoreEntry L least d ≡ true → Splits es (behind L d) → Splits (entryIn L d ∷ es) d
   unfolding encoded
   splits-one least d es h q rest =
       let y = stands L least d q in
@@ -87,20 +87,20 @@ module _ (L : Layout) (lawful : Lawful L) where
       ∙ lawful .again d h (omega (arith, y .whole)) (y .spare)
 
   -- their bytes stand at the front of what was read
-  pub read-split : (k least : ℕ) (d : List ℕ) → Bytes d → Splits (entriesFrom L k least d) d
+  pub read-split : (k least : ℕ) (d : List ℕ) → Bytes d → Splits (frontEntries L k least d) d
   read-split zero least d h = subst (λ (es : List Entry). Splits es d) (sym nothing) (splits-none d)
     where
-      nothing : entriesFrom L zero least d ≡ []
+      nothing : frontEntries L zero least d ≡ []
       nothing = none-at-all L least d
-  read-split (suc k) least d h = go (isEntry L least d) refl (λ d′ h′. read-split k (L .numberIn d + 1) d′ h′)
+  read-split (suc k) least d h = go (isStoreEntry L least d) refl (λ d′ h′. read-split k (L .numberIn d + 1) d′ h′)
     where
-      go : (t : Bool) → isEntry L least d ≡ t → ((d′ : List ℕ) → Bytes d′ → Splits (entriesFrom L k (L .numberIn d + 1) d′) d′) → Splits (entriesFrom L (suc k) least d) d
+      go : (t : Bool) → isStoreEntry L least d ≡ t → ((d′ : List ℕ) → Bytes d′ → Splits (frontEntries L k (L .numberIn d + 1) d′) d′) → Splits (frontEntries L (suc k) least d) d
       go true q again =
           let k′ : suc k - 1 ≡ k = omega arith in
-          let e : entriesFrom L (suc k) least d ≡ entryIn L d ∷ entriesFrom L k (L .numberIn d + 1) (behind L d)
-          = first-entry L (suc k) least d (omega arith) q ∙ ap (λ (n : ℕ). entryIn L d ∷ entriesFrom L n (L .numberIn d + 1) (behind L d)) k′ in
+          let e : frontEntries L (suc k) least d ≡ entryIn L d ∷ frontEntries L k (L .numberIn d + 1) (behind L d)
+          = first-entry L (suc k) least d (omega arith) q ∙ ap (λ (n : ℕ). entryIn L d ∷ frontEntries L n (L .numberIn d + 1) (behind L d)) k′ in
           subst (λ (es : List Entry). Splits es d) (sym e)
-          (splits-one least d (entriesFrom L k (L .numberIn d + 1) (behind L d)) h q (again (behind L d) (bytes-drop (L .size + L .lengthIn d) d h)))
+          (splits-one least d (frontEntries L k (L .numberIn d + 1) (behind L d)) h q (again (behind L d) (bytes-drop (L .size + L .lengthIn d) d h)))
       go false q again = subst (λ (es : List Entry). Splits es d) (sym (no-entry L (suc k) least d q)) (splits-none d)
 
   pub whole-store : (s : List ℕ) → Bytes s → encoded L (entries L s) ++ drop (sizeOf L (entries L s)) s ≡ s
@@ -134,8 +134,8 @@ module _ (L : Layout) (lawful : Lawful L) where
     long-is : length d ≡ L .size + (length b + length r)
     long-is = length-append (L .pack n (length b)) (b ++ r) ∙ omega (arith, lawful .sized n (length b), length-append b r)
 
-    entry-is : least ≤ n → 1 ≤ length b → areBody b ≡ true → isEntry L least d ≡ true
-    unfolding isEntry
+    entry-is : least ≤ n → 1 ≤ length b → areBody b ≡ true → isStoreEntry L least d ≡ true
+    unfolding isStoreEntry
     entry-is h₁ h₂ h₃ = simp (
       le-leb (L .size) (length d) (omega (arith, long-is)),
       le-leb 1 (L .lengthIn d) (omega (arith, length-is)),
@@ -146,9 +146,9 @@ module _ (L : Layout) (lawful : Lawful L) where
       ap areBody body-is ∙ h₃,
     )
 
-  -- a valid entry in front of any bytes is read as it was written
-  pub read-one : (e : Entry) (es : List Entry) (least k : ℕ) (r : List ℕ) → Fits L least e → length (encoded L (e ∷ es) ++ r) ≤ k
-      → (entriesFrom L k least (encoded L (e ∷ es) ++ r) ≡ e ∷ entriesFrom L (k - 1) (e .number + 1) (encoded L es ++ r)) × (length (encoded L es ++ r) ≤ k - 1)
+  -- such an entry in front of any bytes is read as it was written
+  pub read-one : (e : Entry) (es : List Entry) (least k : ℕ) (r : List ℕ) → MayStand L least e → length (encoded L (e ∷ es) ++ r) ≤ k
+      → (frontEntries L k least (encoded L (e ∷ es) ++ r) ≡ e ∷ frontEntries L (k - 1) (e .number + 1) (encoded L es ++ r)) × (length (encoded L es ++ r) ≤ k - 1)
   unfolding encoded
   read-one e es least k z f h =
       let n = e .number in
@@ -158,20 +158,20 @@ module _ (L : Layout) (lawful : Lawful L) where
       let q : encoded L (e ∷ es) ++ z ≡ D = append-assoc (L .pack n (length b)) (b ++ encoded L es) z ∙ ap (λ (x : List ℕ). L .pack n (length b) ++ x) (append-assoc b (encoded L es) z) in
       let l = long-is least n b r (f .small) (f .most) in
       let m : L .size + (length b + length r) ≤ k = omega (arith, h, ap length q, l) in (
-        ap (entriesFrom L k least) q
+        ap (frontEntries L k least) q
             ∙ first-entry L k least D (omega (arith, m, f .some)) (entry-is least n b r (f .small) (f .most) (f .rising) (f .some) (f .bytes))
-            ∙ ap (λ (x : List ℕ). record { number = L .numberIn D; body = x } ∷ entriesFrom L (k - 1) (L .numberIn D + 1) (behind L D)) (body-is least n b r (f .small) (f .most))
-            ∙ ap (λ (x : ℕ). record { number = x; body = b } ∷ entriesFrom L (k - 1) (x + 1) (behind L D)) (number-is least n b r (f .small) (f .most))
-            ∙ ap (λ (x : List ℕ). e ∷ entriesFrom L (k - 1) (n + 1) x) (behind-is least n b r (f .small) (f .most)),
+            ∙ ap (λ (x : List ℕ). record { number = L .numberIn D; body = x } ∷ frontEntries L (k - 1) (L .numberIn D + 1) (behind L D)) (body-is least n b r (f .small) (f .most))
+            ∙ ap (λ (x : ℕ). record { number = x; body = b } ∷ frontEntries L (k - 1) (x + 1) (behind L D)) (number-is least n b r (f .small) (f .most))
+            ∙ ap (λ (x : List ℕ). e ∷ frontEntries L (k - 1) (n + 1) x) (behind-is least n b r (f .small) (f .most)),
         omega (arith, m, f .some),
       )
 
-  no-zeros : (least z : ℕ) → isEntry L least (replicate z 0) ≡ false
-  unfolding isEntry
+  no-zeros : (least z : ℕ) → isStoreEntry L least (replicate z 0) ≡ false
+  unfolding isStoreEntry
   no-zeros least z = rw (lt-leb 1 (L .lengthIn (replicate z 0)) (omega (arith, lawful .nought z))) (and-no (leb (L .size) (length (replicate z 0))))
 
-  read-back : (es : List Entry) (least k z : ℕ) → Valid L least es → length (encoded L es ++ replicate z 0) ≤ k → entriesFrom L k least (encoded L es ++ replicate z 0) ≡ es
-  unfolding Valid encoded
+  read-back : (es : List Entry) (least k z : ℕ) → Rising L least es → length (encoded L es ++ replicate z 0) ≤ k → frontEntries L k least (encoded L es ++ replicate z 0) ≡ es
+  unfolding Rising encoded
   read-back [] least k z v h = no-entry L k least (replicate z 0) (no-zeros least z)
   read-back (e ∷ es) least k z v h =
       let w = read-one e es least k (replicate z 0) (v .0) h in
@@ -182,12 +182,12 @@ module _ (L : Layout) (lawful : Lawful L) where
   pub stored-long : (room : ℕ) (es : List Entry) → sizeOf L es ≤ room → length (stored L room es) ≡ room
   stored-long room es h = length-append (encoded L es) (replicate (room - sizeOf L es) 0) ∙ omega (arith, length-replicate {A = ℕ} (room - sizeOf L es) 0)
 
-  -- the store of valid entries that fit holds exactly them
-  pub entries-stored : (room : ℕ) (es : List Entry) → Valid L 0 es → sizeOf L es ≤ room → entries L (stored L room es) ≡ es
+  -- the store of such entries that fit holds exactly them
+  pub entries-stored : (room : ℕ) (es : List Entry) → Rising L 0 es → sizeOf L es ≤ room → entries L (stored L room es) ≡ es
   entries-stored room es v h = read-back es 0 (length (stored L room es)) (room - sizeOf L es) v (omega arith)
 
   -- and is well formed
-  pub stored-formed : (room : ℕ) (es : List Entry) → Valid L 0 es → sizeOf L es ≤ room → wellFormed L (stored L room es) ≡ true
+  pub stored-formed : (room : ℕ) (es : List Entry) → Rising L 0 es → sizeOf L es ≤ room → wellFormed L (stored L room es) ≡ true
   unfolding wellFormed
   stored-formed room es v h =
       ap (λ (l : List Entry). areZeros (drop (sizeOf L l) (stored L room es))) (entries-stored room es v h)

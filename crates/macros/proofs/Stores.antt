@@ -9,30 +9,30 @@ use lib.Dec.{leb, eqb}
 use lib.ListN.{length}
 use lib.IntN.{ℤ, natAbs}
 use Rattle.refusals.specs.Answers.{pick, demand}
-use Rattle.macros.specs.Store.{Entry, Layout, sizeOf, stored, entries, wellFormed, Valid, bodyOf, isNumber, orElse, bodyInEither, lookRefusal, findRefusal, lookedUp}
+use Rattle.macros.specs.Store.{Entry, Layout, sizeOf, stored, entries, wellFormed, Rising, bodyOf, isMacroNumber, orElse, bodyInEither, lookRefusal, findRefusal, lookedUp}
 use Rattle.macros.specs.Fronts.{Bytes}
 use Rattle.macros.proofs.Layouts.{Lawful}
-use Rattle.macros.proofs.Listing.{entries-valid, size-inside, entries-stored, stored-formed, formed-stored}
+use Rattle.macros.proofs.Listing.{entries-rising, size-inside, entries-stored, stored-formed, formed-stored}
 
 -- ---- "A store is entries in rising macro number, each number once. [..] The rest of the store is all zeros."
 
 -- the store is these entries and then zeros
 pub record Holds (L : Layout) (s : List ℕ) (es : List Entry) : Type 0 where
-  pub valid : Valid L 0 es
+  pub rising : Rising L 0 es
   pub fit : sizeOf L es ≤ length s
   pub is : s ≡ stored L (length s) es
 
 module _ (L : Layout) (lawful : Lawful L) (s : List ℕ) where
   -- the test passes exactly such stores
   pub formed-holds : Bytes s → wellFormed L s ≡ true → Holds L s (entries L s)
-  formed-holds h e = record { valid = entries-valid L lawful s h; fit = size-inside L lawful s h; is = formed-stored L lawful s h e }
+  formed-holds h e = record { rising = entries-rising L lawful s h; fit = size-inside L lawful s h; is = formed-stored L lawful s h e }
 
   pub holds-formed : (es : List Entry) → Holds L s es → wellFormed L s ≡ true
-  holds-formed es h = ap (wellFormed L) (h .is) ∙ stored-formed L lawful (length s) es (h .valid) (h .fit)
+  holds-formed es h = ap (wellFormed L) (h .is) ∙ stored-formed L lawful (length s) es (h .rising) (h .fit)
 
   -- and of one list of entries and no other
   pub holds-entries : (es : List Entry) → Holds L s es → entries L s ≡ es
-  holds-entries es h = ap (entries L) (h .is) ∙ entries-stored L lawful (length s) es (h .valid) (h .fit)
+  holds-entries es h = ap (entries L) (h .is) ∙ entries-stored L lawful (length s) es (h .rising) (h .fit)
 
   pub holds-one : (es fs : List Entry) → Holds L s es → Holds L s fs → es ≡ fs
   holds-one es fs h g = sym (holds-entries es h) ∙ holds-entries fs g
@@ -47,7 +47,7 @@ module _ (L : Layout) (v w s t : List ℕ) (m : ℤ) where
   looked-alike a b c d = rw (a, b, c, d)
 
 -- two well-formed stores and a number in its range: the body in the first, or else in the second
-pub looked-so : (L : Layout) (v s : List ℕ) (n : ℤ) → wellFormed L v ≡ true → wellFormed L s ≡ true → isNumber n ≡ true → lookedUp L v s n ≡ orElse (bodyOf (natAbs n) (entries L v)) (bodyOf (natAbs n) (entries L s))
+pub looked-so : (L : Layout) (v s : List ℕ) (n : ℤ) → wellFormed L v ≡ true → wellFormed L s ≡ true → isMacroNumber n ≡ true → lookedUp L v s n ≡ orElse (bodyOf (natAbs n) (entries L v)) (bodyOf (natAbs n) (entries L s))
 unfolding lookedUp findRefusal lookRefusal bodyInEither
 looked-so L v s n a b c = rw (a, b, c) (go (orElse (bodyOf (natAbs n) (entries L v)) (bodyOf (natAbs n) (entries L s))))
   where

@@ -4,7 +4,7 @@ ghost use mathlib.Core.Path.{_≡_};
 ghost use Prim.Native.Nat.{_+_, _<_, _≤_};
 ghost use lib.ListN.{length, getD, drop};
 ghost use Rattle.refusals.specs.Answers.{every};
-ghost use Rattle.macros.specs.Store.{threeBytes, atMost, isEntry, wellFormed, lookedUp, findRefusal, findingOf, placed, placeOf, hasBody, bodyByHeaders, lookedByHeaders};
+ghost use Rattle.macros.specs.Store.{threeBytes, atMost, isStoreEntry, wellFormed, lookedUp, findRefusal, findingOf, placed, bodyPlaceOf, hasBody, bodyByHeaders, lookedByHeaders};
 ghost use Rattle.macros.specs.Fronts.{LengthIs, FrontIs, GapIs, SurveyIs, gapBehind};
 use refusals::Refusal;
 
@@ -16,14 +16,20 @@ pub const LONGEST: usize = 256;
 
 pub enum Finding {
     Found,
-    NotFound(Refusal),
+    Refused(Refusal),
 }
 
-// Where look up finds a body: where it begins in a store, and its length.
+// A body as part of a store: where it begins in it, and its length.
+pub struct Part {
+    pub offset: usize,
+    pub long: usize,
+}
+
+// Where look up finds a body.
 pub enum Place {
-    InVolatile(usize, usize),
-    InSaved(usize, usize),
-    Nowhere(Refusal),
+    InVolatile(Part),
+    InSaved(Part),
+    Refused(Refusal),
 }
 
 // What stands at a place of a store.
@@ -112,7 +118,7 @@ fn headed_at(store: &[u8], at: usize) -> Front
 // The entry at a place, if it may stand there with `least` the least number that it may have.
 fn entry_at(store: &[u8], at: usize, least: usize) -> Front
     requires { ⌜ at ≤ length (now store) ⌝ }
-    ensures { λ r. ⌜ FrontIs threeBytes (isEntry threeBytes least) (now (store .entry)) at r ⌝ }
+    ensures { λ r. ⌜ FrontIs threeBytes (isStoreEntry threeBytes least) (now (store .entry)) at r ⌝ }
 {
     let Front::Here(number, from, to) = headed_at(store, at) else {
         return Front::NoEntry;
@@ -205,29 +211,35 @@ pub fn is_well_formed(store: &[u8]) -> bool
 
 // Where the body stands, in the volatile store if it is there, otherwise in the saved store: 12, 8 and 14, in that order.
 pub fn locate<'a>(volatile: &'a [u8], saved: &'a [u8], number: i32) -> Place
-    ensures { λ r. ⌜ placeOf r ≡ placed threeBytes (now (volatile .entry)) (now (saved .entry)) number ⌝ }
+    ensures { λ r. ⌜ bodyPlaceOf r ≡ placed threeBytes (now (volatile .entry)) (now (saved .entry)) number ⌝ }
 {
     let n = numbers::magnitude(number) as usize;
     let Survey::Formed(first) = inspect(volatile, n) else {
-        return Place::Nowhere(Refusal::StoreMalformed);
+        return Place::Refused(Refusal::StoreMalformed);
     };
     let Survey::Formed(second) = inspect(saved, n) else {
-        return Place::Nowhere(Refusal::StoreMalformed);
+        return Place::Refused(Refusal::StoreMalformed);
     };
     if !ranges::is_within(0, 32767, number) {
-        return Place::Nowhere(Refusal::NotValid);
+        return Place::Refused(Refusal::NotValid);
     }
     if first.at < first.old {
         let from = first.at + HEADER;
         let long = first.old - from;
-        return Place::InVolatile(from, long);
+        return Place::InVolatile(Part {
+            offset: from,
+            long: long,
+        });
     }
     if second.at < second.old {
         let from = second.at + HEADER;
         let long = second.old - from;
-        return Place::InSaved(from, long);
+        return Place::InSaved(Part {
+            offset: from,
+            long: long,
+        });
     }
-    Place::Nowhere(Refusal::NoSuchMacro)
+    Place::Refused(Refusal::NoSuchMacro)
 }
 
 // The body as part of whichever store holds it; an empty part where there is none.
@@ -235,15 +247,17 @@ pub fn look_up<'a>(volatile: &'a [u8], saved: &'a [u8], number: i32) -> &'a [u8]
     ensures { λ r. ⌜ now r ≡ lookedUp threeBytes (now (volatile .entry)) (now (saved .entry)) number ⌝ }
 {
     match locate(volatile, saved, number) {
-        Place::InVolatile(from, long) => {
-            let to = from + long;
+        Place::InVolatile(part) => {
+            let from = part.offset;
+            let to = from + part.long;
             &volatile[from..to]
         }
-        Place::InSaved(from, long) => {
-            let to = from + long;
+        Place::InSaved(part) => {
+            let from = part.offset;
+            let to = from + part.long;
             &saved[from..to]
         }
-        Place::Nowhere(_) => &saved[..0],
+        Place::Refused(_) => &saved[..0],
     }
 }
 
@@ -252,9 +266,9 @@ pub fn found<'a>(volatile: &'a [u8], saved: &'a [u8], number: i32) -> Finding
     ensures { λ r. ⌜ findingOf r ≡ findRefusal threeBytes (now (volatile .entry)) (now (saved .entry)) number ⌝ }
 {
     match locate(volatile, saved, number) {
-        Place::InVolatile(_, _) => Finding::Found,
-        Place::InSaved(_, _) => Finding::Found,
-        Place::Nowhere(refusal) => Finding::NotFound(refusal),
+        Place::InVolatile(_) => Finding::Found,
+        Place::InSaved(_) => Finding::Found,
+        Place::Refused(refusal) => Finding::Refused(refusal),
     }
 }
 

@@ -1,6 +1,6 @@
 use borrow.Author.Needs.{needs}
 use lib.ListN.{length}
-use Rattle.expansion.proofs.Walking.{Walking, walking-none, same-long, same-ran, walked-end, walked-broken, walked-stopped, copied-from, copied-to, copied-less, copied-counts, walking-copied, called-less, called-roomy, walking-called}
+use Rattle.expansion.proofs.Walking.{Walking, walking-none, same-long, same-ran, walked-end, walked-broken, walked-refused, copied-from, copied-to, copied-less, copied-counts, walking-copied, called-less, called-roomy, walking-called}
 use Rattle.expansion.proofs.Entering.{enter-negative, enter-deep, enter-absent, enter-full, enter-roomy, enter-in}
 use Prim.Native.Nat.{ℕ, _+_, _-_, _*_, _<_}
 use borrow.Fn.Kinds.{In}
@@ -400,7 +400,7 @@ walk-returns-3 : (t : ℕ) → walk-lts.Need-returns-3 (
   enter-below t,
   enter.Post,
 ) (walk-at t) walk.Post walk-Inv-loop walk-μ-loop
-walk-returns-3 t c = search (needs, walked-stopped)
+walk-returns-3 t c = search (needs, walked-refused)
 
 pub +enter+walk-spec : {M : Type 1} → statement M
 +enter+walk-spec = close μ-enter μ-walk (λ t. enter-lts.spec (
