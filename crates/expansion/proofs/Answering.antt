@@ -20,15 +20,15 @@ use Rattle.refusals.specs.Refusals.{numberOf}
 use Rattle.refusals.proofs.Cases.{and-left, and-right}
 use Rattle.refusals.proofs.Numbers.{not-nought, met}
 use Rattle.macros.specs.declared.Finding.{Finding}
-use Rattle.macros.specs.declared.Finding.the-variants.{Found, NotFound}
+use Rattle.macros.specs.declared.Finding.the-variants as Finding
 use Rattle.macros.specs.Store.{threeBytes, wellFormed, lookRefusal, findRefusal, findingOf}
 use Rattle.expansion.specs.declared.Going.{Going}
 use Rattle.expansion.specs.declared.Step.{Step}
-use Rattle.expansion.specs.declared.Step.the-variants.{On, Stopped}
-use Rattle.expansion.specs.declared.Expansion.the-variants.{Expanded, NotExpanded}
-use Rattle.expansion.specs.Expansion.{Stretch, callStretch, started, Told, stepOf, reached, expansionOf, toldOf, outOf, roomRefusal, roomTold, roomOut, expandRefusal, expandTold, expandOut}
+use Rattle.expansion.specs.declared.Step.the-variants as Step
+use Rattle.expansion.specs.declared.Expansion.the-variants as Expansion
+use Rattle.expansion.specs.Expansion.{Stretch, callStretch, started, ExpansionAnswer, stepOf, reachedBy, expansionOf, toldOf, outOf, roomRefusal, roomTold, roomOut, expandRefusal, expandTold, expandOut}
 use Rattle.expansion.specs.Running.{Formed, Ran}
-use Rattle.expansion.proofs.Walking.{went-on, was-stopped}
+use Rattle.expansion.proofs.Walking.{went-on, was-refused}
 
 -- ---- the run
 
@@ -36,35 +36,35 @@ pub ran-start : (volatile saved : List ℕ) (number : ℤ) {kept : Remembered} {
 unfolding started
 ran-start volatile saved number f e ran = rw (← e) (rw (toZ-ofZ f) at ran)
 
-pub looked : (volatile saved : List ℕ) (number : ℤ) {out out′ : List ℕ} {r : Step} → SFits w32 number → Ran (started volatile saved (toZ w32 (ofZ w32 number))) 0 out out′ r → stepOf r ≡ reached 0 (started volatile saved number)
+pub looked : (volatile saved : List ℕ) (number : ℤ) {out out′ : List ℕ} {r : Step} → SFits w32 number → Ran (started volatile saved (toZ w32 (ofZ w32 number))) 0 out out′ r → stepOf r ≡ reachedBy 0 (started volatile saved number)
 looked volatile saved number f ran = rw (toZ-ofZ f) at (ran .told)
 
 -- ---- a refusal is told with no counts, and leaves the output as it was
 
-refused-told : (e : Refusal) {f : ℕ} (c : Stretch) → numberOf e ≡ f → expansionOf (NotExpanded e) ≡ toldOf f c
+refused-told : (e : Refusal) {f : ℕ} (c : Stretch) → numberOf e ≡ f → expansionOf (Expansion.Refused e) ≡ toldOf f c
 unfolding expansionOf
 refused-told e c z = rw (← z, not-nought e)
 
 refused-out : (e : Refusal) {f : ℕ} (c : Stretch) (out : List ℕ) → numberOf e ≡ f → out ≡ outOf f c out
 refused-out e c out z = rw (← z, not-nought e)
 
-module _ (volatile saved : List ℕ) (number : ℤ) (f : SFits w32 number) (r : Step) (t : stepOf r ≡ reached 0 (started volatile saved (toZ w32 (ofZ w32 number)))) where
-  told-of : stepOf r ≡ reached 0 (started volatile saved number)
+module _ (volatile saved : List ℕ) (number : ℤ) (f : SFits w32 number) (r : Step) (t : stepOf r ≡ reachedBy 0 (started volatile saved (toZ w32 (ofZ w32 number)))) where
+  told-of : stepOf r ≡ reachedBy 0 (started volatile saved number)
   told-of = rw (toZ-ofZ f) at t
 
-  module _ {e : Refusal} (g : r ≡ Stopped e) where
-    stop-is : (room : ℕ) → numberOf e ≡ roomRefusal (started volatile saved number) room
-    stop-is room = let q = was-stopped 0 (started volatile saved number) told-of g in rw (q .0) (q .1)
+  module _ {e : Refusal} (g : r ≡ Step.Refused e) where
+    refusal-is : (room : ℕ) → numberOf e ≡ roomRefusal (started volatile saved number) room
+    refusal-is room = let q = was-refused 0 (started volatile saved number) told-of g in rw (q .0) (q .1)
 
-    pub stopped-told : (room : ℕ) → expansionOf (NotExpanded e) ≡ roomTold (started volatile saved number) room
+    pub look-refused-told : (room : ℕ) → expansionOf (Expansion.Refused e) ≡ roomTold (started volatile saved number) room
     unfolding roomTold
-    stopped-told room = refused-told e (started volatile saved number) (stop-is room)
+    look-refused-told room = refused-told e (started volatile saved number) (refusal-is room)
 
-    pub stopped-out : (out : List ℕ) → out ≡ roomOut (started volatile saved number) out
+    pub look-refused-out : (out : List ℕ) → out ≡ roomOut (started volatile saved number) out
     unfolding roomOut
-    stopped-out out = refused-out e (started volatile saved number) out (stop-is (length out))
+    look-refused-out out = refused-out e (started volatile saved number) out (refusal-is (length out))
 
-  module _ {end : Going} (g : r ≡ On end) where
+  module _ {end : Going} (g : r ≡ Step.On end) where
     length-is : end .at ≡ length ((started volatile saved number) .bytes)
     length-is = ap (λ (x : Going). x .at) (went-on 0 (started volatile saved number) told-of g .1) ∙ omega arith
 
@@ -75,7 +75,7 @@ module _ (volatile saved : List ℕ) (number : ℤ) (f : SFits w32 number) (r : 
       short-is : numberOf TooShort ≡ roomRefusal (started volatile saved number) (length out)
       short-is = rw (went-on 0 (started volatile saved number) told-of g .0, lt-leb (length ((started volatile saved number) .bytes)) (length out) (omega (arith, h, length-is)))
 
-      pub short-told : expansionOf (NotExpanded TooShort) ≡ roomTold (started volatile saved number) (length out)
+      pub short-told : expansionOf (Expansion.Refused TooShort) ≡ roomTold (started volatile saved number) (length out)
       unfolding roomTold
       short-told = refused-told TooShort (started volatile saved number) short-is
 
@@ -87,7 +87,7 @@ module _ (volatile saved : List ℕ) (number : ℤ) (f : SFits w32 number) (r : 
       none : roomRefusal (started volatile saved number) (length out) ≡ 0
       none = rw (went-on 0 (started volatile saved number) told-of g .0, le-leb (length ((started volatile saved number) .bytes)) (length out) (omega (arith, h, length-is)))
 
-      pub done-told : expansionOf (Expanded (end .at) (end .entered)) ≡ roomTold (started volatile saved number) (length out)
+      pub done-told : expansionOf (Expansion.Expanded (record { written = end .at; entered = end .entered })) ≡ roomTold (started volatile saved number) (length out)
       unfolding roomTold expansionOf
       done-told = rw (none, length-is, entered-is)
 
@@ -104,12 +104,12 @@ module _ (volatile saved : List ℕ) (number : ℤ) (f : SFits w32 number) (r : 
   finding : findingOf r ≡ findRefusal threeBytes volatile saved number
   finding = rw (toZ-ofZ f) at t
 
-  module _ {e : Refusal} (g : r ≡ NotFound e) where
+  module _ {e : Refusal} (g : r ≡ Finding.Refused e) where
     unfound-is : (room : ℕ) → numberOf e ≡ expandRefusal volatile saved number room
     unfolding findingOf expandRefusal
     unfound-is room = let q : numberOf e ≡ findRefusal threeBytes volatile saved number = sym (rw g) ∙ finding in rw (← q, not-nought e)
 
-    pub unfound-told : (room : ℕ) → expansionOf (NotExpanded e) ≡ expandTold volatile saved number room
+    pub unfound-told : (room : ℕ) → expansionOf (Expansion.Refused e) ≡ expandTold volatile saved number room
     unfolding expandTold
     unfound-told room = refused-told e (started volatile saved number) (unfound-is room)
 
@@ -117,7 +117,7 @@ module _ (volatile saved : List ℕ) (number : ℤ) (f : SFits w32 number) (r : 
     unfolding expandOut
     unfound-out out = refused-out e (started volatile saved number) out (unfound-is (length out))
 
-  module _ (g : r ≡ Found) where
+  module _ (g : r ≡ Finding.Found) where
     pub found-formed : Formed volatile saved
     unfolding findingOf findRefusal lookRefusal
     found-formed =
@@ -129,7 +129,7 @@ module _ (volatile saved : List ℕ) (number : ℤ) (f : SFits w32 number) (r : 
     unfolding findingOf expandRefusal
     found-is room = let q : findRefusal threeBytes volatile saved number ≡ 0 = sym finding ∙ rw g in rw q
 
-    pub found-told : (room : ℕ) {x : Told} → x ≡ roomTold (started volatile saved (toZ w32 (ofZ w32 number))) room → x ≡ expandTold volatile saved number room
+    pub found-told : (room : ℕ) {x : ExpansionAnswer} → x ≡ roomTold (started volatile saved (toZ w32 (ofZ w32 number))) room → x ≡ expandTold volatile saved number room
     unfolding expandTold roomTold
     found-told room e = (rw (toZ-ofZ f) at e) ∙ ap (λ (k : ℕ). toldOf k (started volatile saved number)) (sym (found-is room))
 

@@ -7,15 +7,15 @@ use lib.Dec.{eqb}
 use lib.ListN.{length, drop}
 use lib.IntN.{ℤ, natAbs}
 use Rattle.refusals.proofs.Cases.{by-pick}
-use Rattle.macros.specs.Store.{Entry, Layout, threeBytes, bodyIn, isEntry, entriesFrom, entries, bodyOf, orElse, bodyInEither, findRefusal, lookedUp}
+use Rattle.macros.specs.Store.{Entry, Layout, threeBytes, bodyIn, isStoreEntry, frontEntries, entries, bodyOf, orElse, bodyInEither, findRefusal, lookedUp}
 use Rattle.macros.proofs.Reading.{stands, body-long}
 
 module _ (L : Layout) where
-  pub short-of : (n k least : ℕ) (s : List ℕ) → length (bodyOf n (entriesFrom L k least s)) ≤ L .longest
-  unfolding entriesFrom bodyOf
+  pub short-of : (n k least : ℕ) (s : List ℕ) → length (bodyOf n (frontEntries L k least s)) ≤ L .longest
+  unfolding frontEntries bodyOf
   short-of n zero least s = omega arith
   short-of n (suc k) least s =
-      by-pick (λ (es : List Entry). length (bodyOf n es) ≤ L .longest) (isEntry L least s) _ _
+      by-pick (λ (es : List Entry). length (bodyOf n es) ≤ L .longest) (isStoreEntry L least s) _ _
       (λ t.
       let y = stands L least s t in
       by-pick (λ (b : List ℕ). length b ≤ L .longest) (eqb (L .numberIn s) n) _ _

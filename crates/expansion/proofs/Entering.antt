@@ -21,7 +21,7 @@ use Rattle.macros.proofs.Headers.{headers-look}
 use Rattle.expansion.proofs.Bodies.{looked-up-short}
 use Rattle.expansion.specs.declared.Going.{Going}
 use Rattle.expansion.specs.declared.Step.{Step}
-use Rattle.expansion.specs.declared.Step.the-variants.{On, Stopped}
+use Rattle.expansion.specs.declared.Step.the-variants as Step
 use Rattle.expansion.specs.Expansion.{Stretch, gives, stops, opened, entering, callStretch, bodyStretch}
 use Rattle.expansion.specs.Running.{Formed, Roomy, Ran}
 use Rattle.expansion.proofs.Walking.{ran-none, ran-stops}
@@ -50,17 +50,17 @@ module _ (volatile saved : List ℕ) (d : ℕ) (number : ℤ) (from : Going) (ou
   test : b ≡ isNegative number
   test = rw (toZ-ofZ f) at eb
 
-  pub enter-negative : b ≡ true → Ran (callStretch volatile saved d number (from .kept) (from .entered)) (from .at) out out (Stopped NotValid)
+  pub enter-negative : b ≡ true → Ran (callStretch volatile saved d number (from .kept) (from .entered)) (from .at) out out (Step.Refused NotValid)
   unfolding callStretch
   enter-negative t =
-      subst (λ (x : Stretch). Ran x (from .at) out out (Stopped NotValid)) (sym (is-negative (lookedUp threeBytes volatile saved) d number (from .kept) (from .entered) (sym test ∙ t)))
+      subst (λ (x : Stretch). Ran x (from .at) out out (Step.Refused NotValid)) (sym (is-negative (lookedUp threeBytes volatile saved) d number (from .kept) (from .entered) (sym test ∙ t)))
       (ran-stops NotValid (from .at) (from .entered) (from .kept) out)
 
   module _ (t : b ≡ false) where
-    pub enter-deep : d ≡ 0 → Ran (callStretch volatile saved d number (from .kept) (from .entered)) (from .at) out out (Stopped TooDeep)
+    pub enter-deep : d ≡ 0 → Ran (callStretch volatile saved d number (from .kept) (from .entered)) (from .at) out out (Step.Refused TooDeep)
     unfolding callStretch
     enter-deep z =
-        subst (λ (x : Stretch). Ran x (from .at) out out (Stopped TooDeep)) (sym (is-deep (lookedUp threeBytes volatile saved) d number (from .kept) (from .entered) (sym test ∙ t) z))
+        subst (λ (x : Stretch). Ran x (from .at) out out (Step.Refused TooDeep)) (sym (is-deep (lookedUp threeBytes volatile saved) d number (from .kept) (from .entered) (sym test ∙ t) z))
         (ran-stops TooDeep (from .at) (from .entered) (from .kept) out)
 
     module _ (formed : Formed volatile saved) (z : d ≡ 0 → ⊥) {body : List ℕ} (el : body ≡ lookedByHeaders threeBytes volatile saved (toZ w32 (ofZ w32 number))) where
@@ -70,16 +70,16 @@ module _ (volatile saved : List ℕ) (d : ℕ) (number : ℤ) (from : Going) (ou
           is-opened (lookedUp threeBytes volatile saved) d number (from .kept) (from .entered) (sym test ∙ t) z
           ∙ ap (λ (l : List ℕ). opened (entering (lookedUp threeBytes volatile saved) (d - 1)) l (from .kept) (from .entered)) (sym (body-is volatile saved number f formed el))
 
-      pub enter-absent : length body ≡ 0 → Ran (callStretch volatile saved d number (from .kept) (from .entered)) (from .at) out out (On from)
+      pub enter-absent : length body ≡ 0 → Ran (callStretch volatile saved d number (from .kept) (from .entered)) (from .at) out out (Step.On from)
       enter-absent e =
           let q : opened (callStretch volatile saved (d - 1)) body (from .kept) (from .entered) ≡ gives [] (from .entered) (from .kept) = rw (eq-eqb (length body) 0 e) in
-          subst (λ (x : Stretch). Ran x (from .at) out out (On from)) (sym (found ∙ q)) (ran-none from out)
+          subst (λ (x : Stretch). Ran x (from .at) out out (Step.On from)) (sym (found ∙ q)) (ran-none from out)
 
       module _ (e : length body ≡ 0 → ⊥) where
-        pub enter-full : 1024 ≤ from .entered → Ran (callStretch volatile saved d number (from .kept) (from .entered)) (from .at) out out (Stopped TooManyMacros)
+        pub enter-full : 1024 ≤ from .entered → Ran (callStretch volatile saved d number (from .kept) (from .entered)) (from .at) out out (Step.Refused TooManyMacros)
         enter-full m =
             let q : opened (callStretch volatile saved (d - 1)) body (from .kept) (from .entered) ≡ stops 16 (from .entered) (from .kept) = rw (ne-eqb (length body) 0 e, le-ltb (from .entered) 1024 m) in
-            subst (λ (x : Stretch). Ran x (from .at) out out (Stopped TooManyMacros)) (sym (found ∙ q)) (ran-stops TooManyMacros (from .at) (from .entered) (from .kept) out)
+            subst (λ (x : Stretch). Ran x (from .at) out out (Step.Refused TooManyMacros)) (sym (found ∙ q)) (ran-stops TooManyMacros (from .at) (from .entered) (from .kept) out)
 
         pub enter-in : from .entered < 1024 → {out′ : List ℕ} {r : Step} → Ran (bodyStretch volatile saved (d - 1) body (from .kept) (from .entered + 1)) (from .at) out out′ r → Ran (callStretch volatile saved d number (from .kept) (from .entered)) (from .at) out out′ r
         unfolding bodyStretch

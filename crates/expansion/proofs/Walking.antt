@@ -20,50 +20,50 @@ use Rattle.refusals.specs.Answers.{pick}
 use Rattle.refusals.proofs.Numbers.{not-nought}
 use Rattle.refusals.proofs.Many.{sets-append}
 use Rattle.pieces.specs.declared.Piece.{Piece}
-use Rattle.pieces.specs.declared.Piece.the-variants.{End, Copied, Called, Broken}
+use Rattle.pieces.specs.declared.Piece.the-variants as Piece
 use Rattle.pieces.specs.Pieces.{pieceAt}
 use Rattle.pieces.proofs.Within.{copied-onward, called-onward}
 use Rattle.expansion.specs.declared.Going.{Going}
 use Rattle.expansion.specs.declared.Step.{Step}
-use Rattle.expansion.specs.declared.Step.the-variants.{On, Stopped}
-use Rattle.expansion.specs.Expansion.{Stretch, gives, stops, front, andThen, part, onPiece, walked, callStretch, bodyStretch, Reached, on, stopped, stepOf, reached}
+use Rattle.expansion.specs.declared.Step.the-variants as Step
+use Rattle.expansion.specs.Expansion.{Stretch, gives, stops, front, andThen, itemBytes, onPiece, walked, callStretch, bodyStretch, Reached, on, refused, stepOf, reachedBy}
 use Rattle.expansion.specs.Running.{Roomy, Ran}
-use Rattle.expansion.proofs.Stretches.{front-front, part-long, walked-step, fuel-enough, Small, call-small}
+use Rattle.expansion.proofs.Stretches.{front-front, item-long, walked-step, fuel-enough, Small, call-small}
 
 -- ---- what an answer says of a stretch
 
-on-of : (b : Bool) (g h : Going) (e : ℕ) → on g ≡ pick b (on h) (stopped e) → (b ≡ true) × (g ≡ h)
+on-of : (b : Bool) (g h : Going) (e : ℕ) → on g ≡ pick b (on h) (refused e) → (b ≡ true) × (g ≡ h)
 on-of true g h e q = (refl, cc)
 on-of false g h e q = let z : _≡_ {A = ℕ} 0 1 = cc in absurd (omega arith)
 
-stopped-of : (b : Bool) (h : Going) (x e : ℕ) → stopped x ≡ pick b (on h) (stopped e) → (b ≡ false) × (x ≡ e)
-stopped-of true h x e q = let z : _≡_ {A = ℕ} 0 1 = cc in absurd (omega arith)
-stopped-of false h x e q = (refl, cc)
+refused-of : (b : Bool) (h : Going) (x e : ℕ) → refused x ≡ pick b (on h) (refused e) → (b ≡ false) × (x ≡ e)
+refused-of true h x e q = let z : _≡_ {A = ℕ} 0 1 = cc in absurd (omega arith)
+refused-of false h x e q = (refl, cc)
 
-module _ (at : ℕ) (c : Stretch) {r : Step} (t : stepOf r ≡ reached at c) where
-  pub went-on : {g : Going} → r ≡ On g → (eqb (c .number) 0 ≡ true) × (g ≡ record { at = at + length (c .bytes); entered = c .entered; kept = c .kept })
-  unfolding stepOf reached
+module _ (at : ℕ) (c : Stretch) {r : Step} (t : stepOf r ≡ reachedBy at c) where
+  pub went-on : {g : Going} → r ≡ Step.On g → (eqb (c .number) 0 ≡ true) × (g ≡ record { at = at + length (c .bytes); entered = c .entered; kept = c .kept })
+  unfolding stepOf reachedBy
   went-on {g = g} e = on-of (eqb (c .number) 0) g _ (c .number) (sym (rw e) ∙ t)
 
-  pub was-stopped : {x : Refusal} → r ≡ Stopped x → (eqb (c .number) 0 ≡ false) × (numberOf x ≡ c .number)
-  unfolding stepOf reached
-  was-stopped {x = x} e = stopped-of (eqb (c .number) 0) _ (numberOf x) (c .number) (sym (rw e) ∙ t)
+  pub was-refused : {x : Refusal} → r ≡ Step.Refused x → (eqb (c .number) 0 ≡ false) × (numberOf x ≡ c .number)
+  unfolding stepOf reachedBy
+  was-refused {x = x} e = refused-of (eqb (c .number) 0) _ (numberOf x) (c .number) (sym (rw e) ∙ t)
 
 pub ran-given : (bs : List ℕ) (c : Stretch) (at : ℕ) (out₀ out out′ : List ℕ) (r : Step) → out ≡ sets out₀ at bs → Ran c (at + length bs) out out′ r → Ran (front bs c) at out₀ out′ r
-unfolding reached
+unfolding reachedBy
 ran-given bs c at out₀ out out′ r e w =
     let z : at + length bs + length (c .bytes) ≡ at + length (bs ++ c .bytes) = rw (length-append bs (c .bytes)) (omega arith) in
     record {
-      told = w .told ∙ ap (λ (k : ℕ). pick (eqb (c .number) 0) (on (record { at = k; entered = c .entered; kept = c .kept })) (stopped (c .number))) z;
+      told = w .told ∙ ap (λ (k : ℕ). pick (eqb (c .number) 0) (on (record { at = k; entered = c .entered; kept = c .kept })) (refused (c .number))) z;
       laid = w .laid ∙ ap (λ (l : List ℕ). sets l (at + length bs) (c .bytes)) e ∙ sets-append bs (c .bytes) out₀ at;
     }
 
-pub ran-none : (going : Going) (out : List ℕ) → Ran (gives [] (going .entered) (going .kept)) (going .at) out out (On going)
-unfolding stepOf reached
+pub ran-none : (going : Going) (out : List ℕ) → Ran (gives [] (going .entered) (going .kept)) (going .at) out out (Step.On going)
+unfolding stepOf reachedBy
 ran-none going out = let z : going .at ≡ going .at + 0 = omega arith in record { told = ap (λ (k : ℕ). on (record { at = k; entered = going .entered; kept = going .kept })) z; laid = refl }
 
-pub ran-stops : (x : Refusal) (at n : ℕ) (kept : Remembered) (out : List ℕ) → Ran (stops (numberOf x) n kept) at out out (Stopped x)
-unfolding stepOf reached
+pub ran-stops : (x : Refusal) (at n : ℕ) (kept : Remembered) (out : List ℕ) → Ran (stops (numberOf x) n kept) at out out (Step.Refused x)
+unfolding stepOf reachedBy
 ran-stops x at n kept out = record { told = rw (not-nought x); laid = refl }
 
 -- ---- the loop
@@ -109,10 +109,10 @@ module _ (volatile saved : List ℕ) (d : ℕ) (body : List ℕ) (from : Going) 
           walked-step (callStretch volatile saved d) body (length body - i) i (going .kept) (going .entered)
           ∙ ap (onPiece (callStretch volatile saved d) (walked (callStretch volatile saved d) (length body - i) body) body i (going .kept) (going .entered)) (sym ep ∙ e)
 
-      pub walked-end : p ≡ End → Ran (bodyStretch volatile saved d body (from .kept) (from .entered)) (from .at) out₀ out (On going)
+      pub walked-end : p ≡ Piece.End → Ran (bodyStretch volatile saved d body (from .kept) (from .entered)) (from .at) out₀ out (Step.On going)
       walked-end e = ends _ (here-is e) (ran-none going out)
 
-      pub walked-broken : p ≡ Broken → Ran (bodyStretch volatile saved d body (from .kept) (from .entered)) (from .at) out₀ out (Stopped BodyRefused)
+      pub walked-broken : p ≡ Piece.Broken → Ran (bodyStretch volatile saved d body (from .kept) (from .entered)) (from .at) out₀ out (Step.Refused BodyRefused)
       walked-broken e = ends _ (here-is e) (ran-stops BodyRefused (going .at) (going .entered) (going .kept) out)
 
       -- what is left behind the piece, with the fuel for it
@@ -129,7 +129,7 @@ module _ (volatile saved : List ℕ) (d : ℕ) (body : List ℕ) (from : Going) 
             whole = sym (front-front (w .given) bs _) ∙ ap (λ (x : Stretch). front (w .given) (front bs x)) (sym fuel) ∙ ap (front (w .given)) (sym e) ∙ w .whole;
           }
 
-      module _ {next : ℕ} {after : Remembered} (g : p ≡ Copied next after) where
+      module _ {next : ℕ} {after : Remembered} (g : p ≡ Piece.Copied next after) where
         copied-within : (i < next) × (next ≤ length body)
         copied-within = copied-onward (going .kept) body i (sym ep ∙ g)
 
@@ -145,13 +145,13 @@ module _ (volatile saved : List ℕ) (d : ℕ) (body : List ℕ) (from : Going) 
         pub copied-counts : Roomy from (length body) → going .at + (next - i) < 2 ^ 64
         copied-counts r = let h = copied-within in omega (arith, h .0, h .1, w .here, w .cap, r .fits)
 
-        pub walking-copied : {out′ : List ℕ} → out′ ≡ sets out (going .at) (part i next body) → Walking volatile saved d body from out₀ (record { at = going .at + (next - i); entered = going .entered; kept = after }) next out′
+        pub walking-copied : {out′ : List ℕ} → out′ ≡ sets out (going .at) (itemBytes i next body) → Walking volatile saved d body from out₀ (record { at = going .at + (next - i); entered = going .entered; kept = after }) next out′
         walking-copied laid =
             let h = copied-within in
-            let l = part-long i next body (h .1) in
-            onward (part i next body) next (record { at = going .at + (next - i); entered = going .entered; kept = after }) h (here-is g) (omega (arith, l)) (w .few) (omega (arith, l)) laid
+            let l = item-long i next body (h .1) in
+            onward (itemBytes i next body) next (record { at = going .at + (next - i); entered = going .entered; kept = after }) h (here-is g) (omega (arith, l)) (w .few) (omega (arith, l)) laid
 
-      module _ {number : ℤ} {next : ℕ} {after : Remembered} (g : p ≡ Called number next after) where
+      module _ {number : ℤ} {next : ℕ} {after : Remembered} (g : p ≡ Piece.Called number next after) where
         called-within : (i < next) × (next ≤ length body)
         called-within = called-onward (going .kept) body i (sym ep ∙ g)
 
@@ -169,7 +169,7 @@ module _ (volatile saved : List ℕ) (d : ℕ) (body : List ℕ) (from : Going) 
           unfolding called
           ran-called = rw (toZ-ofZ f) at ran
 
-          pub walking-called : {behind : Going} → r ≡ On behind → Walking volatile saved d body from out₀ behind next out′
+          pub walking-called : {behind : Going} → r ≡ Step.On behind → Walking volatile saved d body from out₀ behind next out′
           unfolding called
           walking-called e =
               let q = went-on (going .at) called (ran-called .told) e in
@@ -179,9 +179,9 @@ module _ (volatile saved : List ℕ) (d : ℕ) (body : List ℕ) (from : Going) 
               subst (λ (x : Going). Walking volatile saved d body from out₀ x next out′) (sym (q .1))
               (onward (called .bytes) next into called-within (here-is g ∙ step) refl (small .few) (omega (arith, small .cap)) (ran-called .laid))
 
-          pub walked-stopped : {x : Refusal} → r ≡ Stopped x → Ran (bodyStretch volatile saved d body (from .kept) (from .entered)) (from .at) out₀ out′ (Stopped x)
+          pub walked-refused : {x : Refusal} → r ≡ Step.Refused x → Ran (bodyStretch volatile saved d body (from .kept) (from .entered)) (from .at) out₀ out′ (Step.Refused x)
           unfolding called
-          walked-stopped {x = x} e =
-              let q = was-stopped (going .at) called (ran-called .told) e in
+          walked-refused {x = x} e =
+              let q = was-refused (going .at) called (ran-called .told) e in
               let step : andThen called (walked (callStretch volatile saved d) (length body - i) body next) ≡ called = rw (q .0) in
               ends called (here-is g ∙ step) (subst (Ran called (going .at) out out′) e ran-called)

@@ -13,7 +13,7 @@ use Rattle.parameters.specs.Entries.{entryAt, runAt}
 use Rattle.parameters.specs.Looking.{partAt, fixedAt, tailAt, parametersAt}
 use Rattle.commands.specs.Reading.{letterAt, secondAt, headAt, bodyAt, commandAt}
 use Rattle.stream.specs.Items.{passedFrom, commandItem, itemAt, toldItem}
-use Rattle.macros.specs.Store.{Entry, threeBytes, encoded, isEntry, entriesFrom, wellFormed, bodyOf, bodyInEither, lookRefusal, findRefusal, lookedUp}
+use Rattle.macros.specs.Store.{Entry, threeBytes, encoded, isStoreEntry, frontEntries, wellFormed, bodyOf, bodyInEither, lookRefusal, findRefusal, lookedUp}
 use Rattle.pieces.specs.Pieces.{commandPiece, pieceOf, pieceAt}
 use Rattle.expansion.specs.Expansion.{walked, entering, callStretch, started, expandRefusal, expandTold, expandOut}
 
@@ -81,5 +81,5 @@ paper-of r = r .paper
 
 -- the one claim
 pub all-as-set : map given-of examples ≡ map paper-of examples
-unfolding every endsAfter allAfter byteAt pairAt integerFrom countIn kindOf begins entryAt runAt partAt fixedAt tailAt parametersAt letterAt secondAt headAt bodyAt commandAt passedFrom commandItem itemAt toldItem threeBytes encoded isEntry entriesFrom wellFormed bodyOf bodyInEither lookRefusal findRefusal lookedUp commandPiece pieceOf pieceAt walked entering callStretch started expandRefusal expandTold expandOut
+unfolding every endsAfter allAfter byteAt pairAt integerFrom countIn kindOf begins entryAt runAt partAt fixedAt tailAt parametersAt letterAt secondAt headAt bodyAt commandAt passedFrom commandItem itemAt toldItem threeBytes encoded isStoreEntry frontEntries wellFormed bodyOf bodyInEither lookRefusal findRefusal lookedUp commandPiece pieceOf pieceAt walked entering callStretch started expandRefusal expandTold expandOut
 all-as-set = refl

@@ -12,13 +12,13 @@ use Rattle.refusals.specs.Refusals.{numberOf}
 use Rattle.refusals.specs.Answers.{pick, demand}
 use Rattle.macros.specs.Store.{threeBytes, lookedUp, findRefusal}
 use Rattle.pieces.specs.declared.Piece.{Piece}
-use Rattle.pieces.specs.declared.Piece.the-variants.{End, Copied, Called, Broken}
+use Rattle.pieces.specs.declared.Piece.the-variants as Piece
 use Rattle.pieces.specs.Pieces.{pieceAt}
 use Rattle.expansion.specs.declared.Expansion.{Expansion}
-use Rattle.expansion.specs.declared.Expansion.the-variants.{Expanded, NotExpanded}
+use Rattle.expansion.specs.declared.Expansion.the-variants as Expansion
 use Rattle.expansion.specs.declared.Going.{Going}
 use Rattle.expansion.specs.declared.Step.{Step}
-use Rattle.expansion.specs.declared.Step.the-variants.{On, Stopped}
+use Rattle.expansion.specs.declared.Step.the-variants as Step
 
 -- ---- a stretch of an expansion: its bytes, the macros entered in all, what is then remembered, and the first trouble's number, or 0
 
@@ -45,15 +45,15 @@ andThen c rest = pick (eqb (c .number) 0) (front (c .bytes) (rest (c .kept) (c .
 -- ---- the body of a macro
 
 -- the bytes of an item
-abbrev pub part : (i next : ℕ) → List ℕ → List ℕ
-part i next body = take (next - i) (drop i body)
+abbrev pub itemBytes : (i next : ℕ) → List ℕ → List ℕ
+itemBytes i next body = take (next - i) (drop i body)
 
 -- an item is copied, a KX is replaced; 17 for a refused or cut command
 abbrev pub onPiece : (ℤ → Remembered → ℕ → Stretch) → (ℕ → Remembered → ℕ → Stretch) → List ℕ → ℕ → Remembered → ℕ → Piece → Stretch
-onPiece call rest body i kept n End = gives [] n kept
-onPiece call rest body i kept n (Copied next after) = front (part i next body) (rest next after n)
-onPiece call rest body i kept n (Called number next after) = andThen (call number after n) (rest next)
-onPiece call rest body i kept n Broken = stops 17 n kept
+onPiece call rest body i kept n Piece.End = gives [] n kept
+onPiece call rest body i kept n (Piece.Copied next after) = front (itemBytes i next body) (rest next after n)
+onPiece call rest body i kept n (Piece.Called number next after) = andThen (call number after n) (rest next)
+onPiece call rest body i kept n Piece.Broken = stops 17 n kept
 
 -- "Items are taken in byte order": those of a body from i on, with n macros entered before; call says what a KX gives. There are fewer
 -- than k pieces left.
@@ -92,29 +92,29 @@ started volatile saved number = callStretch volatile saved 8 number freshMemory 
 
 pub data Reached : Type 0 where
   on : Going → Reached
-  stopped : ℕ → Reached
+  refused : ℕ → Reached
 
 unfoldable pub stepOf : Step → Reached
-stepOf (On going) = on going
-stepOf (Stopped e) = stopped (numberOf e)
+stepOf (Step.On going) = on going
+stepOf (Step.Refused e) = refused (numberOf e)
 
-unfoldable pub reached : ℕ → Stretch → Reached
-reached at c = pick (eqb (c .number) 0) (on (record { at = at + length (c .bytes); entered = c .entered; kept = c .kept })) (stopped (c .number))
+unfoldable pub reachedBy : ℕ → Stretch → Reached
+reachedBy at c = pick (eqb (c .number) 0) (on (record { at = at + length (c .bytes); entered = c .entered; kept = c .kept })) (refused (c .number))
 
 -- ---- the whole call
 
 -- "The answer gives bytes written and macros entered."
-pub record Told : Type 0 where
+pub record ExpansionAnswer : Type 0 where
   pub number : ℕ
   pub written : ℕ
   pub entered : ℕ
 
-unfoldable pub expansionOf : Expansion → Told
-expansionOf (Expanded written entered) = record { number = 0; written = written; entered = entered }
-expansionOf (NotExpanded e) = record { number = numberOf e; written = 0; entered = 0 }
+unfoldable pub expansionOf : Expansion → ExpansionAnswer
+expansionOf (Expansion.Expanded k) = record { number = 0; written = k .written; entered = k .entered }
+expansionOf (Expansion.Refused e) = record { number = numberOf e; written = 0; entered = 0 }
 
 -- "Counts with a refusal are 0"
-abbrev pub toldOf : (f : ℕ) → Stretch → Told
+abbrev pub toldOf : (f : ℕ) → Stretch → ExpansionAnswer
 toldOf f c = record { number = f; written = pick (eqb f 0) (length (c .bytes)) 0; entered = pick (eqb f 0) (c .entered) 0 }
 
 -- "Beyond the result a lent list or output is unchanged"
@@ -129,7 +129,7 @@ orNext f next = pick (eqb f 0) next f
 abbrev pub roomRefusal : Stretch → (room : ℕ) → ℕ
 roomRefusal c room = orNext (c .number) (demand (leb (length (c .bytes)) room) 7 0)
 
-unfoldable pub roomTold : Stretch → (room : ℕ) → Told
+unfoldable pub roomTold : Stretch → (room : ℕ) → ExpansionAnswer
 roomTold c room = toldOf (roomRefusal c room) c
 
 unfoldable pub roomOut : Stretch → List ℕ → List ℕ
@@ -140,7 +140,7 @@ unfoldable pub expandRefusal : (volatile saved : List ℕ) → ℤ → (room : �
 expandRefusal volatile saved number room =
     orNext (findRefusal threeBytes volatile saved number) (roomRefusal (started volatile saved number) room)
 
-unfoldable pub expandTold : (volatile saved : List ℕ) → ℤ → (room : ℕ) → Told
+unfoldable pub expandTold : (volatile saved : List ℕ) → ℤ → (room : ℕ) → ExpansionAnswer
 expandTold volatile saved number room = toldOf (expandRefusal volatile saved number room) (started volatile saved number)
 
 unfoldable pub expandOut : (volatile saved : List ℕ) → ℤ → List ℕ → List ℕ

@@ -7,7 +7,7 @@ use mathlib.Core.Bool.{true}
 use Rattle.macros.specs.Store.{threeBytes, wellFormed}
 use Rattle.expansion.specs.declared.Going.{Going}
 use Rattle.expansion.specs.declared.Step.{Step}
-use Rattle.expansion.specs.Expansion.{Stretch, stepOf, reached}
+use Rattle.expansion.specs.Expansion.{Stretch, stepOf, reachedBy}
 
 -- the start has found no 12
 pub record Formed (volatile saved : List ℕ) : Type 0 where
@@ -21,5 +21,5 @@ pub record Roomy (from : Going) (left : ℕ) : Type 0 where
 
 -- a stretch was written from a place on, as far as there was room
 pub record Ran (c : Stretch) (at : ℕ) (out out′ : List ℕ) (r : Step) : Type 0 where
-  pub told : stepOf r ≡ reached at c
+  pub told : stepOf r ≡ reachedBy at c
   pub laid : out′ ≡ sets out at (c .bytes)

@@ -2,7 +2,7 @@
 // First a run that only looks finds the first trouble, the length and the macros entered; then, where all of it fits, one that writes.
 ghost use mathlib.Core.Path.{_≡_};
 ghost use lib.ListN.{length};
-ghost use Rattle.expansion.specs.Expansion.{stepOf, reached, bodyStretch, callStretch, expansionOf, expandTold, expandOut, roomTold, roomOut, started};
+ghost use Rattle.expansion.specs.Expansion.{stepOf, reachedBy, bodyStretch, callStretch, expansionOf, expandTold, expandOut, roomTold, roomOut, started};
 ghost use Rattle.expansion.specs.Running.{Formed, Roomy, Ran};
 use macros::Finding;
 use memory::Remembered;
@@ -15,10 +15,15 @@ const DEEPEST: usize = 8;
 // "a 1,025th macro would be entered"
 const MOST_ENTERED: usize = 1024;
 
+// "bytes written and macros entered"
+pub struct Counts {
+    pub written: usize,
+    pub entered: usize,
+}
+
 pub enum Expansion {
-    // bytes written, and macros entered
-    Expanded(usize, usize),
-    NotExpanded(Refusal),
+    Expanded(Counts),
+    Refused(Refusal),
 }
 
 // How far an expansion has come: the place of the next byte, the macros entered, and what reading remembers.
@@ -30,7 +35,7 @@ struct Going {
 
 enum Step {
     On(Going),
-    Stopped(Refusal),
+    Refused(Refusal),
 }
 
 // The body of a macro, piece by piece; in it `depth` more macros may be entered one inside the other.
@@ -52,7 +57,7 @@ fn walk<'a>(
         let at = going.at;
         match pieces::piece_at(going.kept, body, i) {
             Piece::End => return Step::On(going),
-            Piece::Broken => return Step::Stopped(Refusal::BodyRefused),
+            Piece::Broken => return Step::Refused(Refusal::BodyRefused),
             Piece::Copied(next, after) => {
                 wire::copy(&body[i..next], out, at);
                 going.at = at + (next - i);
@@ -67,7 +72,7 @@ fn walk<'a>(
                         going = behind;
                         i = next;
                     }
-                    Step::Stopped(e) => return Step::Stopped(e),
+                    Step::Refused(e) => return Step::Refused(e),
                 }
             }
         }
@@ -92,17 +97,17 @@ fn enter<'a>(
     let entered = from.entered;
     let kept = from.kept;
     if signs::is_negative(number) {
-        return Step::Stopped(Refusal::NotValid);
+        return Step::Refused(Refusal::NotValid);
     }
     if depth == 0 {
-        return Step::Stopped(Refusal::TooDeep);
+        return Step::Refused(Refusal::TooDeep);
     }
     let body = macros::look_by_headers(volatile, saved, number);
     if body.len() == 0 {
         return Step::On(from);
     }
     if entered >= MOST_ENTERED {
-        return Step::Stopped(Refusal::TooManyMacros);
+        return Step::Refused(Refusal::TooManyMacros);
     }
     let more = entered + 1;
     let inner = Going {
@@ -130,7 +135,7 @@ fn run<'a>(volatile: &'a [u8], saved: &'a [u8], number: i32, out: &mut [u8]) -> 
 // A run that has no room to write in.
 fn look<'a>(volatile: &'a [u8], saved: &'a [u8], number: i32) -> Step
     requires { ⌜ Formed (now volatile) (now saved) ⌝ }
-    ensures { λ r. ⌜ stepOf r ≡ reached 0 (started (now (volatile .entry)) (now (saved .entry)) number) ⌝ }
+    ensures { λ r. ⌜ stepOf r ≡ reachedBy 0 (started (now (volatile .entry)) (now (saved .entry)) number) ⌝ }
 {
     let mut none = [0; 1];
     run(volatile, saved, number, &mut none[..0])
@@ -143,15 +148,18 @@ fn expand_found<'a>(volatile: &'a [u8], saved: &'a [u8], number: i32, out: &mut 
     ensures { λ r. ⌜ now (out .exit) ≡ roomOut (started (now (volatile .entry)) (now (saved .entry)) number) (now (out .entry)) ⌝ }
 {
     match look(volatile, saved, number) {
-        Step::Stopped(e) => Expansion::NotExpanded(e),
+        Step::Refused(e) => Expansion::Refused(e),
         Step::On(end) => {
             let written = end.at;
             let entered = end.entered;
             if written > out.len() {
-                return Expansion::NotExpanded(Refusal::TooShort);
+                return Expansion::Refused(Refusal::TooShort);
             }
             run(volatile, saved, number, out);
-            Expansion::Expanded(written, entered)
+            Expansion::Expanded(Counts {
+                written: written,
+                entered: entered,
+            })
         }
     }
 }
@@ -162,7 +170,7 @@ pub fn expand<'a>(volatile: &'a [u8], saved: &'a [u8], number: i32, out: &mut [u
     ensures { λ r. ⌜ now (out .exit) ≡ expandOut (now (volatile .entry)) (now (saved .entry)) number (now (out .entry)) ⌝ }
 {
     match macros::found(volatile, saved, number) {
-        Finding::NotFound(e) => Expansion::NotExpanded(e),
+        Finding::Refused(e) => Expansion::Refused(e),
         Finding::Found => expand_found(volatile, saved, number, out),
     }
 }

@@ -9,14 +9,17 @@ use mir.Val.{SFits, toZ, ofZ}
 use mir.Facts.{toZ-ofZ}
 use Rattle.refusals.specs.declared.Refusal.{Refusal}
 use Rattle.refusals.specs.Refusals.{numberOf}
-use Rattle.macros.specs.declared.Defining.{Defining}
-use Rattle.macros.specs.declared.Defining.the-variants.{Defined, NotDefined}
+use Rattle.defining.specs.declared.Defining.{Defining}
+use Rattle.defining.specs.declared.Defining.the-variants as Defining
+use Rattle.macros.specs.declared.Part.{Part}
 use Rattle.macros.specs.declared.Place.{Place}
-use Rattle.macros.specs.declared.Place.the-variants.{InVolatile, InSaved, Nowhere}
-use Rattle.macros.specs.Store.{threeBytes, definingOf, defineRefusal, storeAfter, Placed, placeOf, placed}
+use Rattle.macros.specs.declared.Place.the-variants as Place
+use Rattle.macros.specs.Store.{threeBytes, Placed, bodyPlaceOf, placed}
+use Rattle.defining.specs.Defining.{definingOf, defineRefusal, storeAfter}
+use Rattle.expansion.specs.declared.Counts.{Counts}
 use Rattle.expansion.specs.declared.Expansion.{Expansion}
-use Rattle.expansion.specs.declared.Expansion.the-variants.{Expanded, NotExpanded}
-use Rattle.expansion.specs.Expansion.{Told, expansionOf, expandTold, expandOut}
+use Rattle.expansion.specs.declared.Expansion.the-variants as Expansion
+use Rattle.expansion.specs.Expansion.{ExpansionAnswer, expansionOf, expandTold, expandOut}
 use Rattle.macro_calls.specs.Slots.{placeFields, countFields}
 
 -- ---- define
@@ -26,11 +29,11 @@ module _ (s : List ℕ) (n : ℤ) (f : SFits w32 n) (contents : List ℤ) where
     told : definingOf d ≡ defineRefusal threeBytes s n contents
     told = e ∙ rw (toZ-ofZ f)
 
-    pub define-done : d ≡ Defined → 0 ≡ defineRefusal threeBytes s n contents
+    pub define-done : d ≡ Defining.Defined → 0 ≡ defineRefusal threeBytes s n contents
     unfolding definingOf
     define-done g = rw g at told
 
-    pub define-refused : {r : Refusal} → d ≡ NotDefined r → {x : ℕ} → x ≡ numberOf r → x ≡ defineRefusal threeBytes s n contents
+    pub define-refused : {r : Refusal} → d ≡ Defining.Refused r → {x : ℕ} → x ≡ numberOf r → x ≡ defineRefusal threeBytes s n contents
     unfolding definingOf
     define-refused g j = j ∙ rw g at told
 
@@ -39,34 +42,34 @@ module _ (s : List ℕ) (n : ℤ) (f : SFits w32 n) (contents : List ℤ) where
 
 -- ---- look up
 
-module _ (v s : List ℕ) (n : ℤ) (f : SFits w32 n) (p : Place) (e : placeOf p ≡ placed threeBytes v s (toZ w32 (ofZ w32 n))) where
-  stands : placeOf p ≡ placed threeBytes v s n
+module _ (v s : List ℕ) (n : ℤ) (f : SFits w32 n) (p : Place) (e : bodyPlaceOf p ≡ placed threeBytes v s (toZ w32 (ofZ w32 n))) where
+  stands : bodyPlaceOf p ≡ placed threeBytes v s n
   stands = e ∙ rw (toZ-ofZ f)
 
-  module _ {from long : ℕ} where
-    pub volatile-number : p ≡ InVolatile from long → 0 ≡ placed threeBytes v s n .number
-    unfolding placeOf
+  module _ {q : Part} where
+    pub volatile-number : p ≡ Place.InVolatile q → 0 ≡ placed threeBytes v s n .number
+    unfolding bodyPlaceOf
     volatile-number g = rw (sym stands, g)
 
-    pub volatile-fields : p ≡ InVolatile from long → 1 ∷ from ∷ long ∷ [] ≡ placeFields (placed threeBytes v s n)
-    unfolding placeOf placeFields
+    pub volatile-fields : p ≡ Place.InVolatile q → 1 ∷ q .offset ∷ q .long ∷ [] ≡ placeFields (placed threeBytes v s n)
+    unfolding bodyPlaceOf placeFields
     volatile-fields g = rw (sym stands, g)
 
-    pub saved-number : p ≡ InSaved from long → 0 ≡ placed threeBytes v s n .number
-    unfolding placeOf
+    pub saved-number : p ≡ Place.InSaved q → 0 ≡ placed threeBytes v s n .number
+    unfolding bodyPlaceOf
     saved-number g = rw (sym stands, g)
 
-    pub saved-fields : p ≡ InSaved from long → 2 ∷ from ∷ long ∷ [] ≡ placeFields (placed threeBytes v s n)
-    unfolding placeOf placeFields
+    pub saved-fields : p ≡ Place.InSaved q → 2 ∷ q .offset ∷ q .long ∷ [] ≡ placeFields (placed threeBytes v s n)
+    unfolding bodyPlaceOf placeFields
     saved-fields g = rw (sym stands, g)
 
-  module _ {r : Refusal} (g : p ≡ Nowhere r) where
+  module _ {r : Refusal} (g : p ≡ Place.Refused r) where
     pub nowhere-number : {x : ℕ} → x ≡ numberOf r → x ≡ placed threeBytes v s n .number
-    unfolding placeOf
+    unfolding bodyPlaceOf
     nowhere-number j = rw (sym stands, g) j
 
     pub nowhere-fields : 0 ∷ 0 ∷ 0 ∷ [] ≡ placeFields (placed threeBytes v s n)
-    unfolding placeOf placeFields
+    unfolding bodyPlaceOf placeFields
     nowhere-fields = rw (sym stands, g)
 
 -- ---- expand
@@ -76,16 +79,16 @@ module _ (v s : List ℕ) (n : ℤ) (f : SFits w32 n) where
     comes : expansionOf x ≡ expandTold v s n room
     comes = e ∙ rw (toZ-ofZ f)
 
-    module _ {written entered : ℕ} (g : x ≡ Expanded written entered) where
+    module _ {k : Counts} (g : x ≡ Expansion.Expanded k) where
       pub expanded-number : 0 ≡ expandTold v s n room .number
       unfolding expansionOf
       expanded-number = rw (sym comes, g)
 
-      pub expanded-counts : written ∷ entered ∷ [] ≡ countFields (expandTold v s n room)
+      pub expanded-counts : k .written ∷ k .entered ∷ [] ≡ countFields (expandTold v s n room)
       unfolding expansionOf countFields
       expanded-counts = rw (sym comes, g)
 
-    module _ {r : Refusal} (g : x ≡ NotExpanded r) where
+    module _ {r : Refusal} (g : x ≡ Expansion.Refused r) where
       pub unexpanded-number : {y : ℕ} → y ≡ numberOf r → y ≡ expandTold v s n room .number
       unfolding expansionOf
       unexpanded-number j = rw (sym comes, g) j

@@ -1,11 +1,12 @@
 // The macro calls for programs in other languages (include/ardhrumesh.h): the answer is a number, and what goes with it is written to lent slots.
 ghost use mathlib.Core.Path.{_≡_};
 ghost use lib.ListN.{length};
-ghost use Rattle.macros.specs.Store.{threeBytes, defineRefusal, storeAfter, placed};
+ghost use Rattle.macros.specs.Store.{threeBytes, placed};
+ghost use Rattle.defining.specs.Defining.{defineRefusal, storeAfter};
 ghost use Rattle.expansion.specs.Expansion.{expandTold, expandOut};
 ghost use Rattle.macro_calls.specs.Slots.{placeFields, countFields};
+use defining::Defining;
 use expansion::Expansion;
-use macros::Defining;
 use macros::Place;
 
 // KD and KO
@@ -14,9 +15,9 @@ pub extern "C" fn ardh_define(store: &mut [u8], number: i32, contents: &[i32]) -
     ensures { λ r. ⌜ r ≡ defineRefusal threeBytes (now (store .entry)) number (now (contents .entry)) ⌝ }
     ensures { λ _. ⌜ now (store .exit) ≡ storeAfter threeBytes (now (store .entry)) number (now (contents .entry)) ⌝ }
 {
-    match macros::define(store, number, contents) {
+    match defining::define(store, number, contents) {
         Defining::Defined => 0,
-        Defining::NotDefined(e) => refusals::number(e),
+        Defining::Refused(e) => refusals::number(e),
     }
 }
 
@@ -31,15 +32,15 @@ pub extern "C" fn ardh_look_up<'a>(
     ensures { λ _. ⌜ now (place .exit) ≡ placeFields (placed threeBytes (now (volatile .entry)) (now (saved .entry)) number) ⌝ }
 {
     match macros::locate(volatile, saved, number) {
-        Place::InVolatile(from, long) => {
-            *place = [1, from, long];
+        Place::InVolatile(part) => {
+            *place = [1, part.offset, part.long];
             0
         }
-        Place::InSaved(from, long) => {
-            *place = [2, from, long];
+        Place::InSaved(part) => {
+            *place = [2, part.offset, part.long];
             0
         }
-        Place::Nowhere(e) => {
+        Place::Refused(e) => {
             *place = [0, 0, 0];
             refusals::number(e)
         }
@@ -59,11 +60,11 @@ pub extern "C" fn ardh_expand<'a>(
     ensures { λ _. ⌜ now (out .exit) ≡ expandOut (now (volatile .entry)) (now (saved .entry)) number (now (out .entry)) ⌝ }
 {
     match expansion::expand(volatile, saved, number, out) {
-        Expansion::Expanded(written, entered) => {
-            *counts = [written, entered];
+        Expansion::Expanded(come) => {
+            *counts = [come.written, come.entered];
             0
         }
-        Expansion::NotExpanded(e) => {
+        Expansion::Refused(e) => {
             *counts = [0, 0];
             refusals::number(e)
         }

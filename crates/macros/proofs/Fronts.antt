@@ -20,7 +20,7 @@ use Rattle.macros.specs.declared.Front.the-variants.{Here, NoEntry}
 use Rattle.macros.specs.declared.Gap.{Gap}
 use Rattle.macros.specs.declared.Survey.{Survey}
 use Rattle.macros.specs.declared.Survey.the-variants.{Formed, Malformed}
-use Rattle.macros.specs.Store.{Entry, Layout, threeIn, threeBytes, sizeOf, atMost, areBody, bodyIn, isEntry, entries, below, wellFormed, hasBody}
+use Rattle.macros.specs.Store.{Entry, Layout, threeIn, threeBytes, sizeOf, atMost, areBody, bodyIn, isStoreEntry, entries, below, wellFormed, hasBody}
 use Rattle.macros.specs.Fronts.{Bytes, LengthIs, EntryIs, FrontIs, GapIs, FormedIs, SurveyIs, gapBehind}
 use Rattle.macros.proofs.Layouts.{Lawful, three-size, three-longest, three-lawful}
 use Rattle.macros.proofs.Reading.{stands, body-long, entryIn, restFrom, rest-all, rest-none, rest-one, size-cons, size-nil, keep-yes, keep-no, keep-nil, and-no}
@@ -138,8 +138,8 @@ headless true false c more rest e = refl
 headless false b c more rest e = refl
 
 module _ (L : Layout) (s : List ℕ) (at least : ℕ) (r : Front) (is : FrontIs L (hasBody L) s at r) where
-  pub no-head : r ≡ NoEntry → FrontIs L (isEntry L least) s at NoEntry
-  unfolding FrontIs isEntry hasBody
+  pub no-head : r ≡ NoEntry → FrontIs L (isStoreEntry L least) s at NoEntry
+  unfolding FrontIs isStoreEntry hasBody
   no-head e =
       let d = drop at s in
       headless (leb (L .size) (length d)) (leb 1 (L .lengthIn d)) (leb (L .size + L .lengthIn d) (length d)) (leb (L .lengthIn d) (L .longest)) (L .spareZero d && (leb least (L .numberIn d) && areBody (bodyIn L d)))
@@ -149,24 +149,24 @@ module _ (L : Layout) (s : List ℕ) (at least : ℕ) (r : Front) (is : FrontIs 
     head : EntryIs L (hasBody L) s at n from to
     head = entry-of L (hasBody L) s at r is g
 
-    pub too-long : {longest : ℕ} → longest ≡ L .longest → longest < to - from → FrontIs L (isEntry L least) s at NoEntry
-    unfolding FrontIs isEntry
+    pub too-long : {longest : ℕ} → longest ≡ L .longest → longest < to - from → FrontIs L (isStoreEntry L least) s at NoEntry
+    unfolding FrontIs isStoreEntry
     too-long e h = rw (lt-leb (L .lengthIn (drop at s)) (L .longest) (omega (arith, e, h, head .ends))) (simp and-no)
 
-    pub too-low : n < least → FrontIs L (isEntry L least) s at NoEntry
-    unfolding FrontIs isEntry
+    pub too-low : n < least → FrontIs L (isStoreEntry L least) s at NoEntry
+    unfolding FrontIs isStoreEntry
     too-low h = rw (lt-leb least (L .numberIn (drop at s)) (omega (arith, h, head .here))) (simp and-no)
 
     module _ {b : Bool} (eb : b ≡ every (atMost 127) (take (to - from) (drop from s))) where
       body-there : b ≡ areBody (bodyIn L (drop at s))
       body-there = eb ∙ ap (every (atMost 127)) (body-of L (hasBody L) s at r is g)
 
-      pub not-body : b ≡ false → FrontIs L (isEntry L least) s at NoEntry
-      unfolding FrontIs isEntry
+      pub not-body : b ≡ false → FrontIs L (isStoreEntry L least) s at NoEntry
+      unfolding FrontIs isStoreEntry
       not-body t = rw (sym body-there ∙ t) (simp and-no)
 
-      pub an-entry : b ≡ true → {longest : ℕ} → longest ≡ L .longest → to - from ≤ longest → least ≤ n → FrontIs L (isEntry L least) s at (Here n from to)
-      unfolding FrontIs isEntry
+      pub an-entry : b ≡ true → {longest : ℕ} → longest ≡ L .longest → to - from ≤ longest → least ≤ n → FrontIs L (isStoreEntry L least) s at (Here n from to)
+      unfolding FrontIs isStoreEntry
       an-entry t el h₁ h₂ =
           let d = drop at s in
           let y = head in
@@ -194,9 +194,9 @@ pub ruleset fronts = (three-longest, from-of, inside-of, no-head, too-long, too-
 
 -- ---- passing entries
 
-module _ (L : Layout) (s : List ℕ) (at least : ℕ) (r : Front) (is : FrontIs L (isEntry L least) s at r) {n from to : ℕ} (g : r ≡ Here n from to) where
-  here : EntryIs L (isEntry L least) s at n from to
-  here = entry-of L (isEntry L least) s at r is g
+module _ (L : Layout) (s : List ℕ) (at least : ℕ) (r : Front) (is : FrontIs L (isStoreEntry L least) s at r) {n from to : ℕ} (g : r ≡ Here n from to) where
+  here : EntryIs L (isStoreEntry L least) s at n from to
+  here = entry-of L (isStoreEntry L least) s at r is g
 
   -- what is left of the store from here on: this entry, and what is left behind it
   pub rest-of : restFrom L s at least ≡ entryIn L (drop at s) ∷ restFrom L s to (n + 1)
@@ -258,9 +258,9 @@ module _ (L : Layout) (s : List ℕ) (at least : ℕ) (none : restFrom L s at le
       omega (arith, e, p .left)
 
 -- one more
-module _ (L : Layout) (lawful : Lawful L) (s : List ℕ) (at least : ℕ) (r : Front) (is : FrontIs L (isEntry L least) s at r) {n from to : ℕ} (g : r ≡ Here n from to) where
-  passed : EntryIs L (isEntry L least) s at n from to
-  passed = entry-of L (isEntry L least) s at r is g
+module _ (L : Layout) (lawful : Lawful L) (s : List ℕ) (at least : ℕ) (r : Front) (is : FrontIs L (isStoreEntry L least) s at r) {n from to : ℕ} (g : r ≡ Here n from to) where
+  passed : EntryIs L (isStoreEntry L least) s at n from to
+  passed = entry-of L (isStoreEntry L least) s at r is g
 
   abbrev first : Entry
   first = entryIn L (drop at s)
@@ -291,10 +291,10 @@ module _ (L : Layout) (lawful : Lawful L) (s : List ℕ) (at least : ℕ) (r : F
   passed-size : sizeOf L (restFrom L s at least) ≡ L .size + length (first .body) + sizeOf L rest
   passed-size = ap (sizeOf L) (rest-of L s at least r is g) ∙ size-cons L lawful first rest
 
-module _ (L : Layout) (lawful : Lawful L) (s : List ℕ) (number : ℕ) (g : Gap) (least : ℕ) (inv : Surveying L s number g least) (r : Front) (is : FrontIs L (isEntry L least) s (g .end) r) where
+module _ (L : Layout) (lawful : Lawful L) (s : List ℕ) (number : ℕ) (g : Gap) (least : ℕ) (inv : Surveying L s number g least) (r : Front) (is : FrontIs L (isStoreEntry L least) s (g .end) r) where
   pub surveyed-end : r ≡ NoEntry → Bytes s → GapIs L s number g
   surveyed-end e bytes =
-      let none = rest-none L s (g .end) least (none-of L (isEntry L least) s (g .end) r is e) in
+      let none = rest-none L s (g .end) least (none-of L (isStoreEntry L least) s (g .end) r is e) in
       record {
         at = passed-all L s (g .end) least none number (g .at) (inv .low);
         old = passed-all L s (g .end) least none (number + 1) (g .old) (inv .upto);
@@ -314,7 +314,7 @@ module _ (L : Layout) (lawful : Lawful L) (s : List ℕ) (number : ℕ) (g : Gap
 
     pub surveyed-less : {g′ : Gap} → g′ ≡ gapBehind g number n to → length s - g′ .end < length s - g .end
     unfolding gapBehind
-    surveyed-less q = rw q (closer L (isEntry L least) s (g .end) r is e)
+    surveyed-less q = rw q (closer L (isStoreEntry L least) s (g .end) r is e)
 
     pub surveyed-on : {g′ : Gap} → g′ ≡ gapBehind g number n to → Surveying L s number g′ (n + 1)
     unfolding gapBehind
@@ -322,7 +322,7 @@ module _ (L : Layout) (lawful : Lawful L) (s : List ℕ) (number : ℕ) (g : Gap
         let h : g .end ≤ to = omega (arith, behind-it L lawful s (g .end) least r is e) in
         subst (λ (x : Gap). Surveying L s number x (n + 1)) (sym q)
         (record {
-          inside = inside-of L (isEntry L least) s (g .end) r is e;
+          inside = inside-of L (isStoreEntry L least) s (g .end) r is e;
           low = passed-one L lawful s (g .end) least r is e number (g .at) (inv .low);
           upto = passed-one L lawful s (g .end) least r is e (number + 1) (g .old) (inv .upto);
           all = omega (arith, inv .all, passed-size L lawful s (g .end) least r is e, behind-it L lawful s (g .end) least r is e);

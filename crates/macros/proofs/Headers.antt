@@ -17,7 +17,7 @@ use Rattle.refusals.proofs.Cases.{and-left, and-right, by-pick, bool-apart}
 use Rattle.ranges.specs.Ranges.{within}
 use Rattle.macros.specs.declared.Front.{Front}
 use Rattle.macros.specs.declared.Front.the-variants.{Here, NoEntry}
-use Rattle.macros.specs.Store.{Entry, Layout, sizeOf, areZeros, bodyIn, isEntry, entriesFrom, entries, wellFormed, isNumber, bodyOf, orElse, lookRefusal, findRefusal, lookedUp, hasBody, bodyByHeaders, lookedByHeaders}
+use Rattle.macros.specs.Store.{Entry, Layout, sizeOf, areZeros, bodyIn, isStoreEntry, frontEntries, entries, wellFormed, isMacroNumber, bodyOf, orElse, lookRefusal, findRefusal, lookedUp, hasBody, bodyByHeaders, lookedByHeaders}
 use Rattle.macros.specs.Fronts.{EntryIs, FrontIs}
 use Rattle.macros.proofs.Layouts.{Lawful}
 use Rattle.macros.proofs.Reading.{stands, body-long, entryIn, behind, size-cons, size-nil, and-no}
@@ -136,21 +136,21 @@ pub ruleset hoppings = (hopping, hopped-end, hopped-here, hopped-past, hopped-on
 -- ---- in either store
 
 module _ (L : Layout) (v s : List ℕ) (n : ℤ) where
-  headers-inside : isNumber n ≡ true → lookedByHeaders L v s n ≡ orElse (bodyByHeaders L (length v) (natAbs n) v) (bodyByHeaders L (length s) (natAbs n) s)
+  headers-inside : isMacroNumber n ≡ true → lookedByHeaders L v s n ≡ orElse (bodyByHeaders L (length v) (natAbs n) v) (bodyByHeaders L (length s) (natAbs n) s)
   unfolding lookedByHeaders
   headers-inside e = rw e
 
-  headers-outside : isNumber n ≡ false → lookedByHeaders L v s n ≡ []
+  headers-outside : isMacroNumber n ≡ false → lookedByHeaders L v s n ≡ []
   unfolding lookedByHeaders
   headers-outside e = rw e
 
-  looked-outside : wellFormed L v ≡ true → wellFormed L s ≡ true → isNumber n ≡ false → lookedUp L v s n ≡ []
+  looked-outside : wellFormed L v ≡ true → wellFormed L s ≡ true → isMacroNumber n ≡ false → lookedUp L v s n ≡ []
   unfolding lookedUp findRefusal lookRefusal
   looked-outside a b c = rw (a, b, c)
 
 -- the number comes back from the callee's contract as the machine reads it
 module _ (L : Layout) (v s : List ℕ) (n : ℤ) (f : SFits w32 n) {w : Bool} (ew : w ≡ within 0 32767 (toZ w32 (ofZ w32 n))) where
-  inside-is : {t : Bool} → w ≡ t → isNumber n ≡ t
+  inside-is : {t : Bool} → w ≡ t → isMacroNumber n ≡ t
   inside-is e = sym (rw (toZ-ofZ f) at ew) ∙ e
 
   pub no-number : not w ≡ true → [] ≡ lookedByHeaders L v s n
@@ -173,7 +173,7 @@ pub ruleset hops = (no-number, by-volatile, by-saved)
 -- ---- what looking up gives
 
 module _ (L : Layout) (lawful : Lawful L) (n : ℕ) where
-  entry-head : (least : ℕ) (d : List ℕ) → isEntry L least d ≡ true → hasBody L d ≡ true
+  entry-head : (least : ℕ) (d : List ℕ) → isStoreEntry L least d ≡ true → hasBody L d ≡ true
   unfolding hasBody
   entry-head least d e =
       let y = stands L least d e in
@@ -186,7 +186,7 @@ module _ (L : Layout) (lawful : Lawful L) (n : ℕ) where
       rw (lt-leb 1 (L .lengthIn d) (omega (arith, z))) (and-no (leb (L .size) (length d)))
 
   -- entries, and then zeros: from header to header stand the same bodies
-  same-first : (k least : ℕ) (d : List ℕ) (es : List Entry) → isEntry L least d ≡ true → (n < L .numberIn d → bodyOf n es ≡ []) → (areZeros (drop (sizeOf L es) (behind L d)) ≡ true → bodyByHeaders L k n (behind L d) ≡ bodyOf n es)
+  same-first : (k least : ℕ) (d : List ℕ) (es : List Entry) → isStoreEntry L least d ≡ true → (n < L .numberIn d → bodyOf n es ≡ []) → (areZeros (drop (sizeOf L es) (behind L d)) ≡ true → bodyByHeaders L k n (behind L d) ≡ bodyOf n es)
       → areZeros (drop (sizeOf L (entryIn L d ∷ es)) d) ≡ true → bodyByHeaders L (suc k) n d ≡ bodyOf n (entryIn L d ∷ es)
   same-first k least d es e absent again z =
       let size : sizeOf L (entryIn L d ∷ es) ≡ L .size + L .lengthIn d + sizeOf L es = size-cons L lawful (entryIn L d) es ∙ omega (arith, body-long L least d e) in
@@ -200,11 +200,11 @@ module _ (L : Layout) (lawful : Lawful L) (n : ℕ) where
   same-none : (k : ℕ) (d : List ℕ) → areZeros (drop (sizeOf L []) d) ≡ true → bodyByHeaders L k n d ≡ []
   same-none k d z = no-head L n k d (zeros-head d (ap (λ (i : ℕ). areZeros (drop i d)) (sym (size-nil L)) ∙ z))
 
-  same-body : (k least : ℕ) (d : List ℕ) → areZeros (drop (sizeOf L (entriesFrom L k least d)) d) ≡ true → bodyByHeaders L k n d ≡ bodyOf n (entriesFrom L k least d)
-  unfolding entriesFrom bodyOf
+  same-body : (k least : ℕ) (d : List ℕ) → areZeros (drop (sizeOf L (frontEntries L k least d)) d) ≡ true → bodyByHeaders L k n d ≡ bodyOf n (frontEntries L k least d)
+  unfolding frontEntries bodyOf
   same-body zero least d = λ z. same-none zero d z
   same-body (suc k) least d =
-      by-pick (λ (es : List Entry). areZeros (drop (sizeOf L es) d) ≡ true → bodyByHeaders L (suc k) n d ≡ bodyOf n es) (isEntry L least d) _ _
+      by-pick (λ (es : List Entry). areZeros (drop (sizeOf L es) d) ≡ true → bodyByHeaders L (suc k) n d ≡ bodyOf n es) (isStoreEntry L least d) _ _
       (λ e. same-first k least d _ e (λ q. low-absent L n k (L .numberIn d + 1) (behind L d) (omega (arith, q))) (same-body k (L .numberIn d + 1) (behind L d)))
       (λ e z. same-none (suc k) d z)
 
@@ -213,9 +213,9 @@ module _ (L : Layout) (lawful : Lawful L) (n : ℕ) where
   headed-body s e = same-body (length s) 0 s e
 
 pub headers-look : (L : Layout) → Lawful L → (v s : List ℕ) (n : ℤ) → wellFormed L v ≡ true → wellFormed L s ≡ true → lookedByHeaders L v s n ≡ lookedUp L v s n
-headers-look L lawful v s n a b = go (isNumber n) refl
+headers-look L lawful v s n a b = go (isMacroNumber n) refl
   where
-    go : (t : Bool) → isNumber n ≡ t → lookedByHeaders L v s n ≡ lookedUp L v s n
+    go : (t : Bool) → isMacroNumber n ≡ t → lookedByHeaders L v s n ≡ lookedUp L v s n
     go true c =
         headers-inside L v s n c
         ∙ ap (λ (x : List ℕ). orElse x (bodyByHeaders L (length s) (natAbs n) s)) (headed-body L lawful (natAbs n) v a)

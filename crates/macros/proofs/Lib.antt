@@ -4,8 +4,6 @@ pub mod Fronts
 pub mod Listing
 pub mod Locations
 pub mod Lookups
-pub mod Writing
-pub mod Placing
 pub mod Stores
 pub mod Headers
 pub mod Coinciding

@@ -1,17 +1,16 @@
 -- Lists of entries in rising number, and the bytes that they are written as.
-use Prim.Native.Nat.{ℕ, zero, suc, _+_, _-_, _≤_, _<_}
+use Prim.Native.Nat.{ℕ, zero, suc, _+_, _-_, _≤_}
 use mathlib.Core.Path.{_≡_, refl, sym, _∙_, ap, subst}
 use mathlib.Core.Bool.{Bool, true, false}
-use mathlib.Core.List.{List, [], _∷_, _++_, append-nil, append-assoc}
+use mathlib.Core.List.{List, [], _∷_, _++_, append-assoc}
 use native.Mathlib.Omega.{arith}
-use borrow.Author.Tests.{le-leb, lt-leb, le-ltb, lt-ltb, eq-eqb, ne-eqb, ltb-true, ltb-false, leb-true, eqb-false}
-use lib.Arith.{lt-of-le-ne}
-use lib.Dec.{leb, ltb, eqb}
+use borrow.Author.Tests.{le-leb, lt-leb, leb-true}
+use lib.Dec.{leb}
 use lib.ListN.{length, drop, replicate, length-append, length-replicate, length-drop, take-append-drop}
 use lib.Seq.{getD-drop, drop-drop, take-append-seam, drop-append-seam, drop-at}
-use Rattle.refusals.specs.Answers.{every, pick}
-use Rattle.refusals.proofs.Cases.{and-left, and-right, bool-apart}
-use Rattle.macros.specs.Store.{Entry, Layout, encoded, sizeOf, stored, areBody, areZeros, bodyIn, isEntry, entriesFrom, entries, wellFormed, Fits, Valid, keep, below, above, one, put, bodyOf}
+use Rattle.refusals.specs.Answers.{every}
+use Rattle.refusals.proofs.Cases.{and-left, and-right}
+use Rattle.macros.specs.Store.{Entry, Layout, encoded, sizeOf, stored, areBody, areZeros, bodyIn, isStoreEntry, frontEntries, entries, wellFormed, MayStand, Rising}
 use Rattle.macros.specs.Fronts.{Bytes}
 use Rattle.macros.proofs.Layouts.{Lawful}
 use Rattle.macros.proofs.Reading.{stands, body-long, entryIn, behind, first-entry, no-entry, size-cons, and-no}
@@ -22,15 +21,15 @@ pub bytes-drop : (k : ℕ) (s : List ℕ) → Bytes s → Bytes (drop k s)
 unfolding Bytes
 bytes-drop k s h i = rw (getD-drop k s i 0) (h (k + i))
 
-weaker : (L : Layout) (least m : ℕ) (es : List Entry) → m ≤ least → Valid L least es → Valid L m es
-unfolding Valid
+pub weaker : (L : Layout) (least m : ℕ) (es : List Entry) → m ≤ least → Rising L least es → Rising L m es
+unfolding Rising
 weaker L least m [] h v = tt
 weaker L least m (e ∷ es) h v =
     let f = v .0 in
     (record { rising = omega (arith, h, f .rising); small = f .small; some = f .some; most = f .most; bytes = f .bytes }, v .1)
 
-none-at-all : (L : Layout) (least : ℕ) (d : List ℕ) → entriesFrom L zero least d ≡ []
-unfolding entriesFrom
+none-at-all : (L : Layout) (least : ℕ) (d : List ℕ) → frontEntries L zero least d ≡ []
+unfolding frontEntries
 none-at-all L least d = refl
 
 all-zeros : (n : ℕ) → areZeros (replicate n 0) ≡ true
@@ -48,20 +47,20 @@ only-zeros (x ∷ l) e =
 
 module _ (L : Layout) (lawful : Lawful L) where
   -- the entries that are read are such a list
-  pub read-valid : (k least : ℕ) (d : List ℕ) → Bytes d → Valid L least (entriesFrom L k least d)
-  unfolding Valid entriesFrom
-  read-valid zero least d h = tt
-  read-valid (suc k) least d h = go (isEntry L least d) refl (λ d′ h′. read-valid k (L .numberIn d + 1) d′ h′)
+  pub read-rising : (k least : ℕ) (d : List ℕ) → Bytes d → Rising L least (frontEntries L k least d)
+  unfolding Rising frontEntries
+  read-rising zero least d h = tt
+  read-rising (suc k) least d h = go (isStoreEntry L least d) refl (λ d′ h′. read-rising k (L .numberIn d + 1) d′ h′)
     where
-      go : (t : Bool) → isEntry L least d ≡ t → ((d′ : List ℕ) → Bytes d′ → Valid L (L .numberIn d + 1) (entriesFrom L k (L .numberIn d + 1) d′)) → Valid L least (entriesFrom L (suc k) least d)
+      go : (t : Bool) → isStoreEntry L least d ≡ t → ((d′ : List ℕ) → Bytes d′ → Rising L (L .numberIn d + 1) (frontEntries L k (L .numberIn d + 1) d′)) → Rising L least (frontEntries L (suc k) least d)
       go true q again =
           let y = stands L least d q in
           let l = body-long L least d q in
           simp q (record { rising = y .rising; small = lawful .small d h; some = omega (arith, l, y .some); most = omega (arith, l, y .most); bytes = y .body }, again (behind L d) (bytes-drop (L .size + L .lengthIn d) d h))
       go false q again = simp q tt
 
-  pub entries-valid : (s : List ℕ) → Bytes s → Valid L 0 (entries L s)
-  entries-valid s h = read-valid (length s) 0 s h
+  pub entries-rising : (s : List ℕ) → Bytes s → Rising L 0 (entries L s)
+  entries-rising s h = read-rising (length s) 0 s h
 
   -- ---- entries that were read, written again
 
@@ -72,7 +71,7 @@ module _ (L : Layout) (lawful : Lawful L) where
   unfolding encoded
   splits-none d = refl
 
-  splits-one : (least : ℕ) (d : List ℕ) (es : List Entry) → Bytes d → isEntry L least d ≡ true → Splits es (behind L d) → Splits (entryIn L d ∷ es) d
+  splits-one : (least : ℕ) (d : List ℕ) (es : List Entry) → Bytes d → isStoreEntry L least d ≡ true → Splits es (behind L d) → Splits (entryIn L d ∷ es) d
   unfolding encoded
   splits-one least d es h q rest =
       let y = stands L least d q in
@@ -88,20 +87,20 @@ module _ (L : Layout) (lawful : Lawful L) where
       ∙ lawful .again d h (omega (arith, y .whole)) (y .spare)
 
   -- their bytes stand at the front of what was read
-  pub read-split : (k least : ℕ) (d : List ℕ) → Bytes d → Splits (entriesFrom L k least d) d
+  pub read-split : (k least : ℕ) (d : List ℕ) → Bytes d → Splits (frontEntries L k least d) d
   read-split zero least d h = subst (λ (es : List Entry). Splits es d) (sym nothing) (splits-none d)
     where
-      nothing : entriesFrom L zero least d ≡ []
+      nothing : frontEntries L zero least d ≡ []
       nothing = none-at-all L least d
-  read-split (suc k) least d h = go (isEntry L least d) refl (λ d′ h′. read-split k (L .numberIn d + 1) d′ h′)
+  read-split (suc k) least d h = go (isStoreEntry L least d) refl (λ d′ h′. read-split k (L .numberIn d + 1) d′ h′)
     where
-      go : (t : Bool) → isEntry L least d ≡ t → ((d′ : List ℕ) → Bytes d′ → Splits (entriesFrom L k (L .numberIn d + 1) d′) d′) → Splits (entriesFrom L (suc k) least d) d
+      go : (t : Bool) → isStoreEntry L least d ≡ t → ((d′ : List ℕ) → Bytes d′ → Splits (frontEntries L k (L .numberIn d + 1) d′) d′) → Splits (frontEntries L (suc k) least d) d
       go true q again =
           let k′ : suc k - 1 ≡ k = omega arith in
-          let e : entriesFrom L (suc k) least d ≡ entryIn L d ∷ entriesFrom L k (L .numberIn d + 1) (behind L d)
-          = first-entry L (suc k) least d (omega arith) q ∙ ap (λ (n : ℕ). entryIn L d ∷ entriesFrom L n (L .numberIn d + 1) (behind L d)) k′ in
+          let e : frontEntries L (suc k) least d ≡ entryIn L d ∷ frontEntries L k (L .numberIn d + 1) (behind L d)
+          = first-entry L (suc k) least d (omega arith) q ∙ ap (λ (n : ℕ). entryIn L d ∷ frontEntries L n (L .numberIn d + 1) (behind L d)) k′ in
           subst (λ (es : List Entry). Splits es d) (sym e)
-          (splits-one least d (entriesFrom L k (L .numberIn d + 1) (behind L d)) h q (again (behind L d) (bytes-drop (L .size + L .lengthIn d) d h)))
+          (splits-one least d (frontEntries L k (L .numberIn d + 1) (behind L d)) h q (again (behind L d) (bytes-drop (L .size + L .lengthIn d) d h)))
       go false q again = subst (λ (es : List Entry). Splits es d) (sym (no-entry L (suc k) least d q)) (splits-none d)
 
   pub whole-store : (s : List ℕ) → Bytes s → encoded L (entries L s) ++ drop (sizeOf L (entries L s)) s ≡ s
@@ -135,8 +134,8 @@ module _ (L : Layout) (lawful : Lawful L) where
     long-is : length d ≡ L .size + (length b + length r)
     long-is = length-append (L .pack n (length b)) (b ++ r) ∙ omega (arith, lawful .sized n (length b), length-append b r)
 
-    entry-is : least ≤ n → 1 ≤ length b → areBody b ≡ true → isEntry L least d ≡ true
-    unfolding isEntry
+    entry-is : least ≤ n → 1 ≤ length b → areBody b ≡ true → isStoreEntry L least d ≡ true
+    unfolding isStoreEntry
     entry-is h₁ h₂ h₃ = simp (
       le-leb (L .size) (length d) (omega (arith, long-is)),
       le-leb 1 (L .lengthIn d) (omega (arith, length-is)),
@@ -147,9 +146,9 @@ module _ (L : Layout) (lawful : Lawful L) where
       ap areBody body-is ∙ h₃,
     )
 
-  -- a valid entry in front of any bytes is read as it was written
-  pub read-one : (e : Entry) (es : List Entry) (least k : ℕ) (r : List ℕ) → Fits L least e → length (encoded L (e ∷ es) ++ r) ≤ k
-      → (entriesFrom L k least (encoded L (e ∷ es) ++ r) ≡ e ∷ entriesFrom L (k - 1) (e .number + 1) (encoded L es ++ r)) × (length (encoded L es ++ r) ≤ k - 1)
+  -- such an entry in front of any bytes is read as it was written
+  pub read-one : (e : Entry) (es : List Entry) (least k : ℕ) (r : List ℕ) → MayStand L least e → length (encoded L (e ∷ es) ++ r) ≤ k
+      → (frontEntries L k least (encoded L (e ∷ es) ++ r) ≡ e ∷ frontEntries L (k - 1) (e .number + 1) (encoded L es ++ r)) × (length (encoded L es ++ r) ≤ k - 1)
   unfolding encoded
   read-one e es least k z f h =
       let n = e .number in
@@ -159,20 +158,20 @@ module _ (L : Layout) (lawful : Lawful L) where
       let q : encoded L (e ∷ es) ++ z ≡ D = append-assoc (L .pack n (length b)) (b ++ encoded L es) z ∙ ap (λ (x : List ℕ). L .pack n (length b) ++ x) (append-assoc b (encoded L es) z) in
       let l = long-is least n b r (f .small) (f .most) in
       let m : L .size + (length b + length r) ≤ k = omega (arith, h, ap length q, l) in (
-        ap (entriesFrom L k least) q
+        ap (frontEntries L k least) q
             ∙ first-entry L k least D (omega (arith, m, f .some)) (entry-is least n b r (f .small) (f .most) (f .rising) (f .some) (f .bytes))
-            ∙ ap (λ (x : List ℕ). record { number = L .numberIn D; body = x } ∷ entriesFrom L (k - 1) (L .numberIn D + 1) (behind L D)) (body-is least n b r (f .small) (f .most))
-            ∙ ap (λ (x : ℕ). record { number = x; body = b } ∷ entriesFrom L (k - 1) (x + 1) (behind L D)) (number-is least n b r (f .small) (f .most))
-            ∙ ap (λ (x : List ℕ). e ∷ entriesFrom L (k - 1) (n + 1) x) (behind-is least n b r (f .small) (f .most)),
+            ∙ ap (λ (x : List ℕ). record { number = L .numberIn D; body = x } ∷ frontEntries L (k - 1) (L .numberIn D + 1) (behind L D)) (body-is least n b r (f .small) (f .most))
+            ∙ ap (λ (x : ℕ). record { number = x; body = b } ∷ frontEntries L (k - 1) (x + 1) (behind L D)) (number-is least n b r (f .small) (f .most))
+            ∙ ap (λ (x : List ℕ). e ∷ frontEntries L (k - 1) (n + 1) x) (behind-is least n b r (f .small) (f .most)),
         omega (arith, m, f .some),
       )
 
-  no-zeros : (least z : ℕ) → isEntry L least (replicate z 0) ≡ false
-  unfolding isEntry
+  no-zeros : (least z : ℕ) → isStoreEntry L least (replicate z 0) ≡ false
+  unfolding isStoreEntry
   no-zeros least z = rw (lt-leb 1 (L .lengthIn (replicate z 0)) (omega (arith, lawful .nought z))) (and-no (leb (L .size) (length (replicate z 0))))
 
-  read-back : (es : List Entry) (least k z : ℕ) → Valid L least es → length (encoded L es ++ replicate z 0) ≤ k → entriesFrom L k least (encoded L es ++ replicate z 0) ≡ es
-  unfolding Valid encoded
+  read-back : (es : List Entry) (least k z : ℕ) → Rising L least es → length (encoded L es ++ replicate z 0) ≤ k → frontEntries L k least (encoded L es ++ replicate z 0) ≡ es
+  unfolding Rising encoded
   read-back [] least k z v h = no-entry L k least (replicate z 0) (no-zeros least z)
   read-back (e ∷ es) least k z v h =
       let w = read-one e es least k (replicate z 0) (v .0) h in
@@ -183,12 +182,12 @@ module _ (L : Layout) (lawful : Lawful L) where
   pub stored-long : (room : ℕ) (es : List Entry) → sizeOf L es ≤ room → length (stored L room es) ≡ room
   stored-long room es h = length-append (encoded L es) (replicate (room - sizeOf L es) 0) ∙ omega (arith, length-replicate {A = ℕ} (room - sizeOf L es) 0)
 
-  -- the store of valid entries that fit holds exactly them
-  pub entries-stored : (room : ℕ) (es : List Entry) → Valid L 0 es → sizeOf L es ≤ room → entries L (stored L room es) ≡ es
+  -- the store of such entries that fit holds exactly them
+  pub entries-stored : (room : ℕ) (es : List Entry) → Rising L 0 es → sizeOf L es ≤ room → entries L (stored L room es) ≡ es
   entries-stored room es v h = read-back es 0 (length (stored L room es)) (room - sizeOf L es) v (omega arith)
 
   -- and is well formed
-  pub stored-formed : (room : ℕ) (es : List Entry) → Valid L 0 es → sizeOf L es ≤ room → wellFormed L (stored L room es) ≡ true
+  pub stored-formed : (room : ℕ) (es : List Entry) → Rising L 0 es → sizeOf L es ≤ room → wellFormed L (stored L room es) ≡ true
   unfolding wellFormed
   stored-formed room es v h =
       ap (λ (l : List Entry). areZeros (drop (sizeOf L l) (stored L room es))) (entries-stored room es v h)
@@ -201,163 +200,3 @@ module _ (L : Layout) (lawful : Lawful L) where
   formed-stored s h e =
       sym (whole-store s h)
       ∙ ap (λ (l : List ℕ). encoded L (entries L s) ++ l) (only-zeros (drop (sizeOf L (entries L s)) s) e ∙ ap (λ (k : ℕ). replicate {A = ℕ} k 0) (length-drop (sizeOf L (entries L s)) s))
-
--- ---- entries by their numbers
-
-module _ (p : ℕ → Bool) where
-  pub keep-append : (xs ys : List Entry) → keep p (xs ++ ys) ≡ keep p xs ++ keep p ys
-  unfolding keep
-  keep-append [] ys = refl
-  keep-append (e ∷ xs) ys = go (p (e .number)) refl (keep-append xs ys)
-    where
-      go : (t : Bool) → p (e .number) ≡ t → keep p (xs ++ ys) ≡ keep p xs ++ keep p ys → keep p (e ∷ (xs ++ ys)) ≡ keep p (e ∷ xs) ++ keep p ys
-      go true q h = simp q (ap (λ (l : List Entry). e ∷ l) h)
-      go false q h = simp q h
-
-  keep-valid : (L : Layout) (least : ℕ) (es : List Entry) → Valid L least es → Valid L least (keep p es)
-  unfolding Valid keep
-  keep-valid L least [] v = tt
-  keep-valid L least (e ∷ es) v = go (p (e .number)) refl (keep-valid L (e .number + 1) es (v .1))
-    where
-      go : (t : Bool) → p (e .number) ≡ t → Valid L (e .number + 1) (keep p es) → Valid L least (keep p (e ∷ es))
-      go true q h = simp q (v .0, h)
-      go false q h = simp q (weaker L (e .number + 1) least (keep p es) (omega (arith, v .0 .rising)) h)
-
-module _ (L : Layout) (n : ℕ) where
-  above-valid : (least : ℕ) (es : List Entry) → Valid L least es → Valid L (n + 1) (above n es)
-  unfolding Valid keep
-  above-valid least [] v = tt
-  above-valid least (e ∷ es) v = go (ltb n (e .number)) refl (above-valid (e .number + 1) es (v .1))
-    where
-      go : (t : Bool) → ltb n (e .number) ≡ t → Valid L (n + 1) (above n es) → Valid L (n + 1) (above n (e ∷ es))
-      go true q h =
-          let f = v .0 in
-          simp q (record { rising = omega (arith, ltb-true n (e .number) q); small = f .small; some = f .some; most = f .most; bytes = f .bytes }, keep-valid (λ x. ltb n x) L (e .number + 1) es (v .1))
-      go false q h = simp q h
-
-  none-below : (least : ℕ) (es : List Entry) → n ≤ least → Valid L least es → below n es ≡ []
-  unfolding Valid keep
-  none-below least [] h v = refl
-  none-below least (e ∷ es) h v = simp (le-ltb (e .number) n (omega (arith, v .0 .rising))) (none-below (e .number + 1) es (omega (arith, v .0 .rising)) (v .1))
-
-  all-from : (least : ℕ) (es : List Entry) → n ≤ least → Valid L least es → keep (λ x. leb n x) es ≡ es
-  unfolding Valid keep
-  all-from least [] h v = refl
-  all-from least (e ∷ es) h v =
-      simp (le-leb n (e .number) (omega (arith, v .0 .rising))) (ap (λ (l : List Entry). e ∷ l) (all-from (e .number + 1) es (omega (arith, v .0 .rising)) (v .1)))
-
-  -- those below a number, and those from it on
-  pub parted : (least : ℕ) (es : List Entry) → Valid L least es → below n es ++ keep (λ x. leb n x) es ≡ es
-  unfolding Valid keep
-  parted least [] v = refl
-  parted least (e ∷ es) v = go (ltb (e .number) n) refl (parted (e .number + 1) es (v .1))
-    where
-      go : (t : Bool) → ltb (e .number) n ≡ t → below n es ++ keep (λ x. leb n x) es ≡ es → below n (e ∷ es) ++ keep (λ x. leb n x) (e ∷ es) ≡ e ∷ es
-      go true q r = simp (q, lt-leb n (e .number) (ltb-true (e .number) n q)) (ap (λ (l : List Entry). e ∷ l) r)
-      go false q r =
-          let h : n ≤ e .number = ltb-false (e .number) n q in
-          simp (q, le-leb n (e .number) h, none-below (e .number + 1) es (omega (arith, h)) (v .1), all-from (e .number + 1) es (omega (arith, h)) (v .1))
-
-  all-above : (least : ℕ) (es : List Entry) → n < least → Valid L least es → above n es ≡ es
-  unfolding Valid keep
-  all-above least [] h v = refl
-  all-above least (e ∷ es) h v =
-      simp (lt-ltb n (e .number) (omega (arith, h, v .0 .rising))) (ap (λ (l : List Entry). e ∷ l) (all-above (e .number + 1) es (omega (arith, h, v .0 .rising)) (v .1)))
-
-  -- deleting what is not there leaves the entries as they are
-  pub put-nothing : (least : ℕ) (es : List Entry) → Valid L least es → bodyOf n es ≡ [] → put n [] es ≡ es
-  unfolding Valid keep bodyOf
-  put-nothing least [] v a = refl
-  put-nothing least (e ∷ es) v a = go (ltb (e .number) n) (eqb (e .number) n) refl refl (put-nothing (e .number + 1) es (v .1))
-    where
-      go : (t u : Bool) → ltb (e .number) n ≡ t → eqb (e .number) n ≡ u → (bodyOf n es ≡ [] → put n [] es ≡ es) → put n [] (e ∷ es) ≡ e ∷ es
-      go t true q w again = let z : length (e .body) ≡ 0 = ap length (rw w at a) in absurd (omega (arith, z, v .0 .some))
-      go true false q w again =
-          let l : e .number < n = ltb-true (e .number) n q in
-          simp (q, le-ltb n (e .number) (omega (arith, l))) (ap (λ (l : List Entry). e ∷ l) (again (rw w at a)))
-      go false false q w again =
-          let l : n < e .number = lt-of-le-ne (ltb-false (e .number) n q) (λ z. eqb-false (e .number) n w (sym z)) in
-          simp (q, lt-ltb n (e .number) l, none-below (e .number + 1) es (omega (arith, l)) (v .1), all-above (e .number + 1) es (omega (arith, l)) (v .1))
-
--- ---- one macro put in its place
-
-module _ (L : Layout) (n : ℕ) (b : List ℕ) (hn : n ≤ 32767) (hl : length b ≤ L .longest) (hb : areBody b ≡ true) where
-  one-valid : (least : ℕ) (ys : List Entry) → least ≤ n → Valid L (n + 1) ys → Valid L least (one n b ++ ys)
-  unfolding Valid
-  one-valid least ys h v = go b hl hb
-    where
-      go : (x : List ℕ) → length x ≤ L .longest → areBody x ≡ true → Valid L least (one n x ++ ys)
-      go [] l a = weaker L (n + 1) least ys (omega (arith, h)) v
-      go (y ∷ x) l a = (record { rising = h; small = hn; some = omega arith; most = l; bytes = a }, v)
-
-  in-place : (least : ℕ) (es ys : List Entry) → least ≤ n → Valid L least es → Valid L (n + 1) ys → Valid L least (below n es ++ (one n b ++ ys))
-  unfolding Valid keep
-  in-place least [] ys h v w = one-valid least ys h w
-  in-place least (e ∷ es) ys h v w = go (ltb (e .number) n) refl (λ m l u. in-place m es ys l u w)
-    where
-      go : (t : Bool) → ltb (e .number) n ≡ t → ((m : ℕ) → m ≤ n → Valid L m es → Valid L m (below n es ++ (one n b ++ ys))) → Valid L least (below n (e ∷ es) ++ (one n b ++ ys))
-      go true q again = simp q (v .0, again (e .number + 1) (omega (arith, ltb-true (e .number) n q)) (v .1))
-      go false q again = simp q (again least h (weaker L (e .number + 1) least es (omega (arith, v .0 .rising)) (v .1)))
-
-  pub put-valid : (es : List Entry) → Valid L 0 es → Valid L 0 (put n b es)
-  put-valid es v = in-place 0 es (above n es) (omega arith) v (above-valid L n 0 es v)
-
-new-body : (m : ℕ) (x : List ℕ) (ys : List Entry) → bodyOf m ys ≡ [] → bodyOf m (one m x ++ ys) ≡ x
-unfolding bodyOf
-new-body m [] ys e = e
-new-body m (y ∷ x) ys e = simp (eq-eqb m m refl)
-
--- a macro that is not among them, and one that is
-module _ (m : ℕ) where
-  body-left : (xs ys : List Entry) → bodyOf m ys ≡ [] → bodyOf m (xs ++ ys) ≡ bodyOf m xs
-  unfolding bodyOf
-  body-left [] ys e = e
-  body-left (x ∷ xs) ys e = ap (λ (l : List ℕ). pick (eqb (x .number) m) (x .body) l) (body-left xs ys e)
-
-  body-right : (p : ℕ → Bool) → p m ≡ false → (es ys : List Entry) → bodyOf m (keep p es ++ ys) ≡ bodyOf m ys
-  unfolding bodyOf keep
-  body-right p h [] ys = refl
-  body-right p h (e ∷ es) ys = go (p (e .number)) refl (body-right p h es ys)
-    where
-      go : (t : Bool) → p (e .number) ≡ t → bodyOf m (keep p es ++ ys) ≡ bodyOf m ys → bodyOf m (keep p (e ∷ es) ++ ys) ≡ bodyOf m ys
-      go true q r = simp (q, ne-eqb (e .number) m (λ z. bool-apart (sym (ap p z ∙ h) ∙ q))) r
-      go false q r = simp q r
-
-  body-kept : (p : ℕ → Bool) → p m ≡ true → (es : List Entry) → bodyOf m (keep p es) ≡ bodyOf m es
-  unfolding bodyOf keep
-  body-kept p h [] = refl
-  body-kept p h (e ∷ es) = go (p (e .number)) refl (body-kept p h es)
-    where
-      go : (t : Bool) → p (e .number) ≡ t → bodyOf m (keep p es) ≡ bodyOf m es → bodyOf m (keep p (e ∷ es)) ≡ bodyOf m (e ∷ es)
-      go true q r = simp q (ap (λ (l : List ℕ). pick (eqb (e .number) m) (e .body) l) r)
-      go false q r = simp (q, ne-eqb (e .number) m (λ z. bool-apart (sym q ∙ ap p z ∙ h))) r
-
-  body-one : (n : ℕ) (b : List ℕ) → (n ≡ m → ⊥) → (ys : List Entry) → bodyOf m (one n b ++ ys) ≡ bodyOf m ys
-  unfolding bodyOf
-  body-one n [] h ys = refl
-  body-one n (x ∷ b) h ys = simp (ne-eqb n m h)
-
-  dropped : (p : ℕ → Bool) → p m ≡ false → (es : List Entry) → bodyOf m (keep p es) ≡ []
-  unfolding bodyOf
-  dropped p h es = ap (bodyOf m) (sym (append-nil (keep p es))) ∙ body-right p h es []
-
-  -- the new body is found
-  pub put-found : (b : List ℕ) (es : List Entry) → bodyOf m (put m b es) ≡ b
-  put-found b es = body-right (λ x. ltb x m) (le-ltb m m (omega arith)) es (one m b ++ above m es) ∙ new b
-    where
-      new : (x : List ℕ) → bodyOf m (one m x ++ above m es) ≡ x
-      new x = new-body m x (above m es) (dropped (λ y. ltb m y) (le-ltb m m (omega arith)) es)
-
-  -- and every other as before
-  pub put-others : (n : ℕ) (b : List ℕ) (es : List Entry) → (n ≡ m → ⊥) → bodyOf m (put n b es) ≡ bodyOf m es
-  put-others n b es h = go (ltb m n) refl
-    where
-      go : (t : Bool) → ltb m n ≡ t → bodyOf m (put n b es) ≡ bodyOf m es
-      go true q =
-          let l : m < n = ltb-true m n q in
-          body-left (below n es) (one n b ++ above n es) (body-one n b h (above n es) ∙ dropped (λ x. ltb n x) (le-ltb n m (omega (arith, l))) es)
-          ∙ body-kept (λ x. ltb x n) q es
-      go false q =
-          body-right (λ x. ltb x n) q es (one n b ++ above n es)
-          ∙ body-one n b h (above n es)
-          ∙ body-kept (λ x. ltb n x) (lt-ltb n m (lt-of-le-ne (ltb-false m n q) h)) es

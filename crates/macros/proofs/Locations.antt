@@ -1,5 +1,5 @@
 -- Where a body stands in the bytes of a store: behind the entries below its number, and its header.
-use Prim.Native.Nat.{ℕ, zero, suc, _+_, _-_, _≤_, _<_}
+use Prim.Native.Nat.{ℕ, zero, suc, _+_, _≤_, _<_}
 use mathlib.Core.Path.{_≡_, refl, sym, _∙_, ap}
 use mathlib.Core.Bool.{Bool, true, false, _&&_}
 use mathlib.Core.List.{List, [], _∷_}
@@ -12,8 +12,7 @@ use lib.Seq.{drop-drop}
 use lib.IntN.{ℤ, natAbs}
 use Rattle.refusals.proofs.Cases.{by-pick}
 use Rattle.refusals.proofs.Numbers.{met}
-use Rattle.macros.specs.Store.{Entry, Layout, sizeOf, bodyIn, isEntry, entriesFrom, entries, wellFormed, keep, below, isNumber, bodyOf, orElse, bodyInEither, lookRefusal, findRefusal, lookedUp, Placed, placed, storeNamed}
-use Rattle.macros.specs.Fronts.{roomFor}
+use Rattle.macros.specs.Store.{Entry, Layout, sizeOf, bodyIn, isStoreEntry, frontEntries, entries, wellFormed, keep, below, isMacroNumber, bodyOf, orElse, bodyInEither, lookRefusal, findRefusal, lookedUp, Placed, placed, storeNamed, entrySize}
 use Rattle.macros.proofs.Layouts.{Lawful}
 use Rattle.macros.proofs.Reading.{stands, body-long, entryIn, behind, size-cons, size-nil, keep-yes, keep-no, keep-nil}
 
@@ -29,21 +28,21 @@ another n e es h = simp (ne-eqb (e .number) n h)
 
 -- entries from a number on have none below it
 module _ (L : Layout) (n : ℕ) where
-  none-low : (k least : ℕ) (d : List ℕ) → n ≤ least → below n (entriesFrom L k least d) ≡ []
-  unfolding entriesFrom keep
+  none-low : (k least : ℕ) (d : List ℕ) → n ≤ least → below n (frontEntries L k least d) ≡ []
+  unfolding frontEntries keep
   none-low zero least d h = refl
   none-low (suc k) least d h =
-      by-pick (λ (es : List Entry). below n es ≡ []) (isEntry L least d) _ _
+      by-pick (λ (es : List Entry). below n es ≡ []) (isStoreEntry L least d) _ _
       (λ q.
       let y = stands L least d q in
       simp (le-ltb (L .numberIn d) n (omega (arith, y .rising))) (none-low k (L .numberIn d + 1) (behind L d) (omega (arith, y .rising))))
       (λ q. refl)
 
-  pub low-absent : (k least : ℕ) (d : List ℕ) → n < least → bodyOf n (entriesFrom L k least d) ≡ []
-  unfolding entriesFrom bodyOf
+  pub low-absent : (k least : ℕ) (d : List ℕ) → n < least → bodyOf n (frontEntries L k least d) ≡ []
+  unfolding frontEntries bodyOf
   low-absent zero least d h = refl
   low-absent (suc k) least d h =
-      by-pick (λ (es : List Entry). bodyOf n es ≡ []) (isEntry L least d) _ _
+      by-pick (λ (es : List Entry). bodyOf n es ≡ []) (isStoreEntry L least d) _ _
       (λ q.
       let y = stands L least d q in
       simp (ne-eqb (L .numberIn d) n (λ e. omega (arith, e, h, y .rising))) (low-absent k (L .numberIn d + 1) (behind L d) (omega (arith, h, y .rising))))
@@ -55,13 +54,13 @@ module _ (L : Layout) (lawful : Lawful L) (n : ℕ) where
   -- it stands behind the entries below the number and its header; with the header it is what lies between those and the entries up to the number
   pub record Stand (es : List Entry) (d : List ℕ) : Type 0 where
     pub there : take (length (bodyOf n es)) (drop (sizeOf L (below n es) + L .size) d) ≡ bodyOf n es
-    pub room : sizeOf L (below (n + 1) es) ≡ sizeOf L (below n es) + roomFor L (length (bodyOf n es))
+    pub room : sizeOf L (below (n + 1) es) ≡ sizeOf L (below n es) + entrySize L (length (bodyOf n es))
 
   stand-none : (es : List Entry) (d : List ℕ) → bodyOf n es ≡ [] → below n es ≡ [] → below (n + 1) es ≡ [] → Stand es d
-  unfolding roomFor
+  unfolding entrySize
   stand-none es d b x y = record { there = rw b; room = rw (b, x, y) (omega (arith, size-nil L)) }
 
-  module _ (least : ℕ) (d : List ℕ) (q : isEntry L least d ≡ true) (es : List Entry) where
+  module _ (least : ℕ) (d : List ℕ) (q : isStoreEntry L least d ≡ true) (es : List Entry) where
     abbrev first : Entry
     first = entryIn L d
 
@@ -69,7 +68,7 @@ module _ (L : Layout) (lawful : Lawful L) (n : ℕ) where
     size-first fs = size-cons L lawful first fs ∙ omega (arith, body-long L least d q)
 
     stand-this : L .numberIn d ≡ n → below n es ≡ [] → below (n + 1) es ≡ [] → Stand (first ∷ es) d
-    unfolding roomFor
+    unfolding entrySize
     stand-this e x y =
         let b : bodyOf n (first ∷ es) ≡ bodyIn L d = this-one n first es e in
         let l : length (bodyIn L d) ≡ L .lengthIn d = body-long L least d q in
@@ -101,9 +100,9 @@ module _ (L : Layout) (lawful : Lawful L) (n : ℕ) where
   stand-empty d = stand-none [] d refl (keep-nil _) (keep-nil _)
 
   -- an entry and those behind it, by its number
-  module _ (k least : ℕ) (d : List ℕ) (q : isEntry L least d ≡ true) where
+  module _ (k least : ℕ) (d : List ℕ) (q : isStoreEntry L least d ≡ true) where
     abbrev rest : List Entry
-    rest = entriesFrom L k (L .numberIn d + 1) (behind L d)
+    rest = frontEntries L k (L .numberIn d + 1) (behind L d)
 
     none-left : (m : ℕ) → m ≤ L .numberIn d + 1 → below m rest ≡ []
     none-left m h = none-low L m k (L .numberIn d + 1) (behind L d) h
@@ -123,11 +122,11 @@ module _ (L : Layout) (lawful : Lawful L) (n : ℕ) where
         go false true ea eb = stand-on least d q rest (ltb-true (L .numberIn d) n eb) st
         go false false ea eb = stand-absent (lt-of-le-ne (ltb-false (L .numberIn d) n eb) (λ e. eqb-false (L .numberIn d) n ea (sym e)))
 
-  stand-from : (k least : ℕ) (d : List ℕ) → Stand (entriesFrom L k least d) d
-  unfolding entriesFrom
+  stand-from : (k least : ℕ) (d : List ℕ) → Stand (frontEntries L k least d) d
+  unfolding frontEntries
   stand-from zero least d = stand-empty d
   stand-from (suc k) least d =
-      by-pick (λ (es : List Entry). Stand es d) (isEntry L least d) _ _
+      by-pick (λ (es : List Entry). Stand es d) (isStoreEntry L least d) _ _
       (λ q. stand-first k least d q (stand-from k (L .numberIn d + 1) (behind L d)))
       (λ q. stand-empty d)
 
@@ -171,7 +170,7 @@ module _ (L : Layout) (v s : List ℕ) (n : ℤ) where
   unfolding findRefusal lookRefusal
   there-is t =
       let a = met (wellFormed L v && wellFormed L s) 12 _ (λ q. omega (arith, q)) (eqb-true (findRefusal L v s n) 0 t) in
-      let b = met (isNumber n) 8 _ (λ q. omega (arith, q)) (a .1) in
+      let b = met (isMacroNumber n) 8 _ (λ q. omega (arith, q)) (a .1) in
       met (leb 1 (length (bodyInEither L v s (natAbs n)))) 14 0 (λ q. omega (arith, q)) (b .1) .0
 
   module _ (lawful : Lawful L) where

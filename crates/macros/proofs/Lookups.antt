@@ -21,13 +21,14 @@ use Rattle.ranges.specs.Ranges.{within}
 use Rattle.macros.specs.declared.Gap.{Gap}
 use Rattle.macros.specs.declared.Survey.{Survey}
 use Rattle.macros.specs.declared.Survey.the-variants.{Formed, Malformed}
+use Rattle.macros.specs.declared.Part.{Part}
 use Rattle.macros.specs.declared.Place.{Place}
-use Rattle.macros.specs.declared.Place.the-variants.{InVolatile, InSaved, Nowhere}
-use Rattle.macros.specs.declared.Finding.the-variants.{Found, NotFound}
-use Rattle.macros.specs.Store.{Layout, sizeOf, below, entries, wellFormed, isNumber, bodyOf, bodyInEither, lookRefusal, findRefusal, lookedUp, findingOf, Placed, placed, storeNamed, placeOf}
-use Rattle.macros.specs.Fronts.{GapIs, FormedIs, SurveyIs, roomFor}
+use Rattle.macros.specs.declared.Place.the-variants as Place
+use Rattle.macros.specs.declared.Finding.the-variants as Finding
+use Rattle.macros.specs.Store.{Layout, sizeOf, below, entries, wellFormed, isMacroNumber, bodyOf, bodyInEither, lookRefusal, findRefusal, lookedUp, findingOf, Placed, placed, storeNamed, bodyPlaceOf, entrySize}
+use Rattle.macros.specs.Fronts.{GapIs, FormedIs, SurveyIs}
 use Rattle.macros.proofs.Layouts.{Lawful, three-size, three-lawful}
-use Rattle.macros.proofs.Placing.{room-none, room-some}
+use Rattle.macros.proofs.Reading.{room-none, room-some}
 use Rattle.macros.proofs.Fronts.{formed-of, malformed-of}
 use Rattle.macros.proofs.Locations.{stand, either-first, either-second, placed-number, located-part, located-inside}
 
@@ -37,7 +38,7 @@ module _ (L : Layout) (lawful : Lawful L) (s : List ℕ) (k : ℕ) {g : Gap} (ga
   abbrev long : ℕ
   long = length (bodyOf k (entries L s))
 
-  between : g .old ≡ g .at + roomFor L long
+  between : g .old ≡ g .at + entrySize L long
   between = omega (arith, gap .at, gap .old, stand L lawful k s .room)
 
   body-between : g .at < g .old → (1 ≤ long) × (g .old ≡ g .at + L .size + long)
@@ -60,23 +61,23 @@ module _ (L : Layout) (lawful : Lawful L) (s : List ℕ) (k : ℕ) {g : Gap} (ga
 -- ---- locating
 
 module _ (L : Layout) (v s : List ℕ) (n : ℤ) where
-  nowhere : (e : Refusal) → findRefusal L v s n ≡ numberOf e → placeOf (Nowhere e) ≡ placed L v s n
-  unfolding placeOf placed
+  nowhere : (e : Refusal) → findRefusal L v s n ≡ numberOf e → bodyPlaceOf (Place.Refused e) ≡ placed L v s n
+  unfolding bodyPlaceOf placed
   nowhere e q = rw (q, not-nought e)
 
-  malformed-either : wellFormed L v && wellFormed L s ≡ false → placeOf (Nowhere StoreMalformed) ≡ placed L v s n
+  malformed-either : wellFormed L v && wellFormed L s ≡ false → bodyPlaceOf (Place.Refused StoreMalformed) ≡ placed L v s n
   unfolding findRefusal lookRefusal
   malformed-either t = nowhere StoreMalformed (rw t)
 
   module _ {k : ℕ} (ek : k ≡ natAbs (toZ w32 (ofZ w32 n))) (a : Survey) (ea : SurveyIs L v k a) where
-    pub first-malformed : a ≡ Malformed → placeOf (Nowhere StoreMalformed) ≡ placed L v s n
+    pub first-malformed : a ≡ Malformed → bodyPlaceOf (Place.Refused StoreMalformed) ≡ placed L v s n
     first-malformed e = malformed-either (rw (malformed-of L v k ea e))
 
     module _ (b : Survey) (eb : SurveyIs L s k b) {g : Gap} (eg : a ≡ Formed g) where
       one : FormedIs L v k g
       one = formed-of L v k ea eg
 
-      pub second-malformed : b ≡ Malformed → placeOf (Nowhere StoreMalformed) ≡ placed L v s n
+      pub second-malformed : b ≡ Malformed → bodyPlaceOf (Place.Refused StoreMalformed) ≡ placed L v s n
       second-malformed e = malformed-either (rw (one .formed, malformed-of L s k eb e))
 
       -- the number comes back from the callee's contract as the machine reads it
@@ -84,10 +85,10 @@ module _ (L : Layout) (v s : List ℕ) (n : ℤ) where
         other : FormedIs L s k h
         other = formed-of L s k eb eh
 
-        inside-is : {t : Bool} → w ≡ t → isNumber n ≡ t
+        inside-is : {t : Bool} → w ≡ t → isMacroNumber n ≡ t
         inside-is e = sym (rw (toZ-ofZ f) at ew) ∙ e
 
-        pub outside : not w ≡ true → placeOf (Nowhere NotValid) ≡ placed L v s n
+        pub outside : not w ≡ true → bodyPlaceOf (Place.Refused NotValid) ≡ placed L v s n
         unfolding findRefusal lookRefusal
         outside t = nowhere NotValid (rw (one .formed, other .formed, inside-is (not-true w t)))
 
@@ -107,8 +108,8 @@ module _ (L : Layout) (v s : List ℕ) (n : ℤ) where
               pub volatile-counts : Fits w64 (g .old) → g .at + size < 2 ^ 64
               volatile-counts c = omega (arith, c .fits, volatile-header)
 
-              pub in-volatile : placeOf (InVolatile (g .at + size) (g .old - (g .at + size))) ≡ placed L v s n
-              unfolding placeOf placed bodyInEither
+              pub in-volatile : bodyPlaceOf (Place.InVolatile (record { offset = g .at + size; long = g .old - (g .at + size) })) ≡ placed L v s n
+              unfolding bodyPlaceOf placed bodyInEither
               in-volatile =
                   let y = body-between L lawful v k (one .gap) l in
                   let u : leb 1 (length (bodyOf k (entries L v))) ≡ true = le-leb 1 _ (y .0) in
@@ -128,8 +129,8 @@ module _ (L : Layout) (v s : List ℕ) (n : ℤ) where
                 pub saved-counts : Fits w64 (h .old) → h .at + size < 2 ^ 64
                 saved-counts c = omega (arith, c .fits, saved-header)
 
-                pub in-saved : placeOf (InSaved (h .at + size) (h .old - (h .at + size))) ≡ placed L v s n
-                unfolding placeOf placed bodyInEither
+                pub in-saved : bodyPlaceOf (Place.InSaved (record { offset = h .at + size; long = h .old - (h .at + size) })) ≡ placed L v s n
+                unfolding bodyPlaceOf placed bodyInEither
                 in-saved =
                     let y = body-between L lawful s k (other .gap) m in
                     let u : leb 1 (length (bodyOf k (entries L s))) ≡ true = le-leb 1 _ (y .0) in
@@ -138,7 +139,7 @@ module _ (L : Layout) (v s : List ℕ) (n : ℤ) where
                     let c : h .old - (h .at + size) ≡ length (bodyOf k (entries L s)) = omega (arith, es, y .1) in
                     rw (z, ← number-is, none, c, o)
 
-              pub in-neither : h .old ≤ h .at → placeOf (Nowhere NoSuchMacro) ≡ placed L v s n
+              pub in-neither : h .old ≤ h .at → bodyPlaceOf (Place.Refused NoSuchMacro) ≡ placed L v s n
               unfolding bodyInEither
               in-neither m =
                   nowhere NoSuchMacro (last ∙ rw (either-second (bodyOf k (entries L v)) (bodyOf k (entries L s)) none, none-between L lawful s k (other .gap) m))
@@ -147,61 +148,61 @@ pub ruleset locatings = (three-size, three-lawful, first-malformed, second-malfo
 
 -- ---- the part that is located, and whether there is one
 
-module _ (L : Layout) (v s : List ℕ) (n : ℤ) (f : SFits w32 n) (r : Place) (er : placeOf r ≡ placed L v s (toZ w32 (ofZ w32 n))) where
-  said : placed L v s n ≡ placeOf r
+module _ (L : Layout) (v s : List ℕ) (n : ℤ) (f : SFits w32 n) (r : Place) (er : bodyPlaceOf r ≡ placed L v s (toZ w32 (ofZ w32 n))) where
+  said : placed L v s n ≡ bodyPlaceOf r
   said = sym (rw (toZ-ofZ f) at er)
 
-  says : {q : Place} → r ≡ q → placed L v s n ≡ placeOf q
-  says e = said ∙ ap placeOf e
+  says : {q : Place} → r ≡ q → placed L v s n ≡ bodyPlaceOf q
+  says e = said ∙ ap bodyPlaceOf e
 
-  number-said : {q : Place} → r ≡ q → placeOf q .number ≡ findRefusal L v s n
+  number-said : {q : Place} → r ≡ q → bodyPlaceOf q .number ≡ findRefusal L v s n
   number-said e = ap (λ (x : Placed). x .number) (sym (says e)) ∙ placed-number L v s n
 
-  part-said : Lawful L → {q : Place} → r ≡ q → take (placeOf q .long) (drop (placeOf q .offset) (storeNamed (placeOf q) v s)) ≡ lookedUp L v s n
+  part-said : Lawful L → {q : Place} → r ≡ q → take (bodyPlaceOf q .long) (drop (bodyPlaceOf q .offset) (storeNamed (bodyPlaceOf q) v s)) ≡ lookedUp L v s n
   part-said lawful e = subst (λ (x : Placed). take (x .long) (drop (x .offset) (storeNamed x v s)) ≡ lookedUp L v s n) (says e) (located-part L v s n lawful)
 
-  inside-said : Lawful L → {q : Place} → r ≡ q → placeOf q .offset + placeOf q .long ≤ length (storeNamed (placeOf q) v s)
+  inside-said : Lawful L → {q : Place} → r ≡ q → bodyPlaceOf q .offset + bodyPlaceOf q .long ≤ length (storeNamed (bodyPlaceOf q) v s)
   inside-said lawful e = subst (λ (x : Placed). x .offset + x .long ≤ length (storeNamed x v s)) (says e) (located-inside L v s n lawful)
 
-  module _ {from long : ℕ} where
-    pub volatile-found : r ≡ InVolatile from long → findingOf Found ≡ findRefusal L v s n
-    unfolding findingOf placeOf
+  module _ {p : Part} where
+    pub volatile-found : r ≡ Place.InVolatile p → findingOf Finding.Found ≡ findRefusal L v s n
+    unfolding findingOf bodyPlaceOf
     volatile-found e = number-said e
 
-    pub saved-found : r ≡ InSaved from long → findingOf Found ≡ findRefusal L v s n
-    unfolding findingOf placeOf
+    pub saved-found : r ≡ Place.InSaved p → findingOf Finding.Found ≡ findRefusal L v s n
+    unfolding findingOf bodyPlaceOf
     saved-found e = number-said e
 
     module _ (lawful : Lawful L) where
-      pub volatile-inside : r ≡ InVolatile from long → from + long ≤ length v
-      unfolding placeOf
+      pub volatile-inside : r ≡ Place.InVolatile p → p .offset + p .long ≤ length v
+      unfolding bodyPlaceOf
       volatile-inside e = inside-said lawful e
 
-      pub saved-inside : r ≡ InSaved from long → from + long ≤ length s
-      unfolding placeOf
+      pub saved-inside : r ≡ Place.InSaved p → p .offset + p .long ≤ length s
+      unfolding bodyPlaceOf
       saved-inside e = inside-said lawful e
 
-      pub volatile-ends : r ≡ InVolatile from long → length v < 2 ^ 64 → from + long < 2 ^ 64
+      pub volatile-ends : r ≡ Place.InVolatile p → length v < 2 ^ 64 → p .offset + p .long < 2 ^ 64
       volatile-ends e h = omega (arith, volatile-inside e, h)
 
-      pub saved-ends : r ≡ InSaved from long → length s < 2 ^ 64 → from + long < 2 ^ 64
+      pub saved-ends : r ≡ Place.InSaved p → length s < 2 ^ 64 → p .offset + p .long < 2 ^ 64
       saved-ends e h = omega (arith, saved-inside e, h)
 
-      pub volatile-part : r ≡ InVolatile from long → take (from + long - from) (drop from v) ≡ lookedUp L v s n
-      unfolding placeOf
-      volatile-part e = let l : from + long - from ≡ long = omega arith in rw l (part-said lawful e)
+      pub volatile-part : r ≡ Place.InVolatile p → take (p .offset + p .long - p .offset) (drop (p .offset) v) ≡ lookedUp L v s n
+      unfolding bodyPlaceOf
+      volatile-part e = let l : p .offset + p .long - p .offset ≡ p .long = omega arith in rw l (part-said lawful e)
 
-      pub saved-part : r ≡ InSaved from long → take (from + long - from) (drop from s) ≡ lookedUp L v s n
-      unfolding placeOf
-      saved-part e = let l : from + long - from ≡ long = omega arith in rw l (part-said lawful e)
+      pub saved-part : r ≡ Place.InSaved p → take (p .offset + p .long - p .offset) (drop (p .offset) s) ≡ lookedUp L v s n
+      unfolding bodyPlaceOf
+      saved-part e = let l : p .offset + p .long - p .offset ≡ p .long = omega arith in rw l (part-said lawful e)
 
-  module _ {e : Refusal} (g : r ≡ Nowhere e) where
-    pub not-found : findingOf (NotFound e) ≡ findRefusal L v s n
-    unfolding findingOf placeOf
+  module _ {e : Refusal} (g : r ≡ Place.Refused e) where
+    pub not-found : findingOf (Finding.Refused e) ≡ findRefusal L v s n
+    unfolding findingOf bodyPlaceOf
     not-found = number-said g
 
     pub empty-part : Lawful L → [] ≡ lookedUp L v s n
-    unfolding placeOf
+    unfolding bodyPlaceOf
     empty-part lawful = part-said lawful g
 
 pub ruleset findings = (three-lawful, volatile-found, saved-found, volatile-inside, saved-inside, volatile-ends, saved-ends, volatile-part, saved-part, not-found, empty-part)

@@ -3,7 +3,7 @@ use Prim.Native.Nat.{ℕ, _+_, _≤_, _<_}
 use mathlib.Core.Path.{_≡_}
 use mathlib.Core.Bool.{Bool, true, false}
 use mathlib.Core.List.{List}
-use lib.Dec.{leb, ltb, eqb}
+use lib.Dec.{ltb}
 use lib.ListN.{length, getD, drop}
 use Rattle.refusals.specs.Answers.{pick}
 use Rattle.macros.specs.declared.Front.{Front}
@@ -11,7 +11,7 @@ use Rattle.macros.specs.declared.Front.the-variants.{Here, NoEntry}
 use Rattle.macros.specs.declared.Gap.{Gap}
 use Rattle.macros.specs.declared.Survey.{Survey}
 use Rattle.macros.specs.declared.Survey.the-variants.{Formed, Malformed}
-use Rattle.macros.specs.Store.{Layout, sizeOf, stored, entries, wellFormed, below, put}
+use Rattle.macros.specs.Store.{Layout, sizeOf, entries, wellFormed, below}
 
 -- every element is a byte, as those of a slice of u8 are
 unfoldable pub Bytes : List ℕ → Type 0
@@ -59,16 +59,3 @@ pub record FormedIs (L : Layout) (s : List ℕ) (number : ℕ) (g : Gap) : Type 
 unfoldable pub SurveyIs : Layout → List ℕ → (number : ℕ) → Survey → Type 0
 SurveyIs L s number (Formed g) = FormedIs L s number g
 SurveyIs L s number Malformed = wellFormed L s ≡ false
-
--- ---- defining
-
--- the bytes of an entry with a body of so many; a macro with no body has none
-unfoldable pub roomFor : Layout → (count : ℕ) → ℕ
-roomFor L count = pick (eqb count 0) 0 (L .size + count)
-
--- whether the new entries fit, and the store with them
-unfoldable pub fitsIn : Layout → List ℕ → ℕ → List ℕ → Bool
-fitsIn L s n b = leb (sizeOf L (put n b (entries L s))) (length s)
-
-unfoldable pub putIn : Layout → List ℕ → ℕ → List ℕ → List ℕ
-putIn L s n b = pick (fitsIn L s n b) (stored L (length s) (put n b (entries L s))) s

@@ -1,20 +1,18 @@
--- "Macros": a store as a list of entries and as bytes, and what defining and looking up make of it.
+-- "Macros": a store as a list of entries and as bytes, and what looking up makes of it.
 use Prim.Native.Nat.{ℕ, zero, suc, _+_, _-_, _*_, _/_, _%_, _≤_}
 use mathlib.Core.Path.{_≡_}
 use mathlib.Core.Bool.{Bool, true, _&&_}
-use mathlib.Core.List.{List, [], _∷_, _++_, map}
+use mathlib.Core.List.{List, [], _∷_, _++_}
 use lib.ListN.{length, getD, take, drop, replicate}
 use lib.Dec.{leb, ltb, eqb}
 use lib.IntN.{ℤ, natAbs}
 use Rattle.refusals.specs.Refusals.{numberOf}
 use Rattle.refusals.specs.Answers.{pick, demand, every}
 use Rattle.ranges.specs.Ranges.{within}
-use Rattle.macros.specs.declared.Defining.{Defining}
-use Rattle.macros.specs.declared.Defining.the-variants.{Defined, NotDefined}
 use Rattle.macros.specs.declared.Finding.{Finding}
-use Rattle.macros.specs.declared.Finding.the-variants.{Found, NotFound}
+use Rattle.macros.specs.declared.Finding.the-variants as Finding
 use Rattle.macros.specs.declared.Place.{Place}
-use Rattle.macros.specs.declared.Place.the-variants.{InVolatile, InSaved, Nowhere}
+use Rattle.macros.specs.declared.Place.the-variants as Place
 
 pub record Entry : Type 0 where
   pub number : ℕ
@@ -61,6 +59,10 @@ encoded L (e ∷ es) = L .pack (e .number) (length (e .body)) ++ (e .body ++ enc
 abbrev pub sizeOf : Layout → List Entry → ℕ
 sizeOf L es = length (encoded L es)
 
+-- the bytes of an entry with a body of so many; a macro with no body has none
+unfoldable pub entrySize : Layout → (count : ℕ) → ℕ
+entrySize L count = pick (eqb count 0) 0 (L .size + count)
+
 -- "the rest of the store is all zeros"
 abbrev pub stored : Layout → (room : ℕ) → List Entry → List ℕ
 stored L room es = encoded L es ++ replicate (room - sizeOf L es) 0
@@ -81,24 +83,24 @@ abbrev pub bodyIn : Layout → List ℕ → List ℕ
 bodyIn L s = take (L .lengthIn s) (drop (L .size) s)
 
 -- an entry at the front of the bytes that may stand there: whole, a body of 1 byte to the longest, and a number from least on
-unfoldable pub isEntry : Layout → (least : ℕ) → List ℕ → Bool
-isEntry L least s =
+unfoldable pub isStoreEntry : Layout → (least : ℕ) → List ℕ → Bool
+isStoreEntry L least s =
     leb (L .size) (length s)
     && (leb 1 (L .lengthIn s)
     && (leb (L .lengthIn s) (L .longest)
     && (leb (L .size + L .lengthIn s) (length s) && (L .spareZero s && (leb least (L .numberIn s) && areBody (bodyIn L s))))))
 
 -- the entries at the front of the bytes, "in rising macro number, each number once", as far as they go; there are at most k
-unfoldable pub entriesFrom : Layout → (k least : ℕ) → List ℕ → List Entry
-entriesFrom L zero least s = []
-entriesFrom L (suc k) least s =
-    pick (isEntry L least s)
-    (record { number = L .numberIn s; body = bodyIn L s } ∷ entriesFrom L k (L .numberIn s + 1) (drop (L .size + L .lengthIn s) s))
+unfoldable pub frontEntries : Layout → (k least : ℕ) → List ℕ → List Entry
+frontEntries L zero least s = []
+frontEntries L (suc k) least s =
+    pick (isStoreEntry L least s)
+    (record { number = L .numberIn s; body = bodyIn L s } ∷ frontEntries L k (L .numberIn s + 1) (drop (L .size + L .lengthIn s) s))
     []
 
 -- an entry takes at least one byte
 abbrev pub entries : Layout → List ℕ → List Entry
-entries L s = entriesFrom L (length s) 0 s
+entries L s = frontEntries L (length s) 0 s
 
 -- "A store is entries [..]. The rest of the store is all zeros. A store of length 0 is empty and well formed."
 unfoldable pub wellFormed : Layout → List ℕ → Bool
@@ -107,7 +109,7 @@ wellFormed L s = areZeros (drop (sizeOf L (entries L s)) s)
 -- ---- a list of entries
 
 -- one that may stand in a store, with a number from least on: "15 bits of number", "body length 1..256", "bytes 0..127"
-pub record Fits (L : Layout) (least : ℕ) (e : Entry) : Type 0 where
+pub record MayStand (L : Layout) (least : ℕ) (e : Entry) : Type 0 where
   pub rising : least ≤ e .number
   pub small : e .number ≤ 32767
   pub some : 1 ≤ length (e .body)
@@ -115,9 +117,9 @@ pub record Fits (L : Layout) (least : ℕ) (e : Entry) : Type 0 where
   pub bytes : areBody (e .body) ≡ true
 
 -- "entries in rising macro number, each number once"
-unfoldable pub Valid : Layout → (least : ℕ) → List Entry → Type 0
-Valid L least [] = Unit {0}
-Valid L least (e ∷ es) = Fits L least e × Valid L (e .number + 1) es
+unfoldable pub Rising : Layout → (least : ℕ) → List Entry → Type 0
+Rising L least [] = Unit {0}
+Rising L least (e ∷ es) = MayStand L least e × Rising L (e .number + 1) es
 
 unfoldable pub keep : (ℕ → Bool) → List Entry → List Entry
 keep p [] = []
@@ -126,55 +128,16 @@ keep p (e ∷ es) = pick (p (e .number)) (e ∷ keep p es) (keep p es)
 abbrev pub below : ℕ → List Entry → List Entry
 below n es = keep (λ x. ltb x n) es
 
-abbrev pub above : ℕ → List Entry → List Entry
-above n es = keep (λ x. ltb n x) es
-
--- "An empty array deletes"
-abbrev pub one : ℕ → List ℕ → List Entry
-one n [] = []
-one n (b ∷ bs) = record { number = n; body = b ∷ bs } ∷ []
-
--- "A new body replaces the old one": the entries below the number, the new one, and the entries above it
-abbrev pub put : ℕ → List ℕ → List Entry → List Entry
-put n body es = below n es ++ (one n body ++ above n es)
-
 -- the body of a macro; none where it is absent, since a body has at least one byte
 unfoldable pub bodyOf : ℕ → List Entry → List ℕ
 bodyOf n [] = []
 bodyOf n (e ∷ es) = pick (eqb (e .number) n) (e .body) (bodyOf n es)
 
--- ---- defining
-
--- "Numbers 0..32767, contents 0..127, at most 256 of them, else 8."
-abbrev pub isNumber : ℤ → Bool
-isNumber n = within 0 32767 n
-
-unfoldable pub mayDefine : Layout → ℤ → List ℤ → Bool
-mayDefine L n contents = isNumber n && (leb (length contents) (L .longest) && every (within 0 127) contents)
-
--- the new entries
-abbrev pub entriesAfter : Layout → List ℕ → ℤ → List ℤ → List Entry
-entriesAfter L s n contents = put (natAbs n) (map natAbs contents) (entries L s)
-
--- "Order: 12, 8", and then what comes next
-unfoldable pub beforeRoom : Layout → List ℕ → ℤ → List ℤ → (next : ℕ) → ℕ
-beforeRoom L s n contents next = demand (wellFormed L s) 12 (demand (mayDefine L n contents) 8 next)
-
--- "13 is given exactly if the new entries together exceed the store"
-unfoldable pub defineRefusal : Layout → List ℕ → ℤ → List ℤ → ℕ
-defineRefusal L s n contents = beforeRoom L s n contents (demand (leb (sizeOf L (entriesAfter L s n contents)) (length s)) 13 0)
-
--- refused, the store is as it was
-unfoldable pub storeAfter : Layout → List ℕ → ℤ → List ℤ → List ℕ
-storeAfter L s n contents =
-    pick (eqb (defineRefusal L s n contents) 0) (stored L (length s) (entriesAfter L s n contents)) s
-
--- what the answer says: 0 or the refusal's number
-unfoldable pub definingOf : Defining → ℕ
-definingOf Defined = 0
-definingOf (NotDefined e) = numberOf e
-
 -- ---- looking up
+
+-- "Numbers 0..32767"
+abbrev pub isMacroNumber : ℤ → Bool
+isMacroNumber n = within 0 32767 n
 
 abbrev pub orElse : List ℕ → List ℕ → List ℕ
 orElse [] other = other
@@ -186,7 +149,7 @@ bodyInEither L volatile saved n = orElse (bodyOf n (entries L volatile)) (bodyOf
 
 -- "12, 8 or 14 in that order": a malformed store, an outside number, and then what comes next
 unfoldable pub lookRefusal : Layout → (volatile saved : List ℕ) → ℤ → (next : ℕ) → ℕ
-lookRefusal L volatile saved n next = demand (wellFormed L volatile && wellFormed L saved) 12 (demand (isNumber n) 8 next)
+lookRefusal L volatile saved n next = demand (wellFormed L volatile && wellFormed L saved) 12 (demand (isMacroNumber n) 8 next)
 
 -- "an absent macro"
 unfoldable pub findRefusal : Layout → (volatile saved : List ℕ) → ℤ → ℕ
@@ -198,8 +161,8 @@ lookedUp L volatile saved n = pick (eqb (findRefusal L volatile saved n) 0) (bod
 
 -- what the companion answer says: 0 or the refusal's number
 unfoldable pub findingOf : Finding → ℕ
-findingOf Found = 0
-findingOf (NotFound e) = numberOf e
+findingOf Finding.Found = 0
+findingOf (Finding.Refused e) = numberOf e
 
 -- ---- where the body stands
 
@@ -230,10 +193,10 @@ abbrev pub storeNamed : Placed → (volatile saved : List ℕ) → List ℕ
 storeNamed p volatile saved = pick (eqb (p .store) 1) volatile saved
 
 -- what the answer says
-unfoldable pub placeOf : Place → Placed
-placeOf (InVolatile offset long) = record { number = 0; store = 1; offset = offset; long = long }
-placeOf (InSaved offset long) = record { number = 0; store = 2; offset = offset; long = long }
-placeOf (Nowhere e) = unplaced (numberOf e)
+unfoldable pub bodyPlaceOf : Place → Placed
+bodyPlaceOf (Place.InVolatile part) = record { number = 0; store = 1; offset = part .offset; long = part .long }
+bodyPlaceOf (Place.InSaved part) = record { number = 0; store = 2; offset = part .offset; long = part .long }
+bodyPlaceOf (Place.Refused e) = unplaced (numberOf e)
 
 -- ---- looking up by the headers alone
 
@@ -252,4 +215,4 @@ bodyByHeaders L (suc k) n s =
 -- in the volatile store if it is there, otherwise in the saved store; none for an outside number
 unfoldable pub lookedByHeaders : Layout → (volatile saved : List ℕ) → ℤ → List ℕ
 lookedByHeaders L volatile saved n =
-    pick (isNumber n) (orElse (bodyByHeaders L (length volatile) (natAbs n) volatile) (bodyByHeaders L (length saved) (natAbs n) saved)) []
+    pick (isMacroNumber n) (orElse (bodyByHeaders L (length volatile) (natAbs n) volatile) (bodyByHeaders L (length saved) (natAbs n) saved)) []

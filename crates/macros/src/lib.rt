@@ -1,39 +1,35 @@
 // A macro store: entries in rising macro number, each number once, and zeros behind them. An entry is a header and its body.
-// Defining works within the store: what stands behind the entry is moved, from whichever end is right, and nothing is copied out.
+// Whether a store is well formed, where a macro stands in it, and looking up.
 ghost use mathlib.Core.Path.{_≡_};
-ghost use mathlib.Core.Bool.{true};
-ghost use mathlib.Core.List.{map};
-ghost use Prim.Native.Nat.{_+_, _-_, _<_, _≤_};
-ghost use lib.ListN.{length, getD, take, drop, replicate};
-ghost use lib.Seq.{sets};
-ghost use lib.IntN.{natAbs};
+ghost use Prim.Native.Nat.{_+_, _<_, _≤_};
+ghost use lib.ListN.{length, getD, drop};
 ghost use Rattle.refusals.specs.Answers.{every};
-ghost use Rattle.ranges.specs.Ranges.{within};
-ghost use Rattle.macros.specs.Store.{threeBytes, atMost, isEntry, wellFormed, one, encoded, mayDefine, defineRefusal, storeAfter, definingOf, lookedUp, findRefusal, findingOf, placed, placeOf, hasBody, bodyByHeaders, lookedByHeaders};
-ghost use Rattle.macros.specs.Fronts.{LengthIs, FrontIs, GapIs, SurveyIs, gapBehind, roomFor, fitsIn, putIn};
+ghost use Rattle.macros.specs.Store.{threeBytes, atMost, isStoreEntry, wellFormed, lookedUp, findRefusal, findingOf, placed, bodyPlaceOf, hasBody, bodyByHeaders, lookedByHeaders};
+ghost use Rattle.macros.specs.Fronts.{LengthIs, FrontIs, GapIs, SurveyIs, gapBehind};
 use refusals::Refusal;
 
 // "The header is three bytes."
-const HEADER: usize = 3;
+pub const HEADER: usize = 3;
 
 // The longest body.
-const LONGEST: usize = 256;
-
-pub enum Defining {
-    Defined,
-    NotDefined(Refusal),
-}
+pub const LONGEST: usize = 256;
 
 pub enum Finding {
     Found,
-    NotFound(Refusal),
+    Refused(Refusal),
 }
 
-// Where look up finds a body: where it begins in a store, and its length.
+// A body as part of a store: where it begins in it, and its length.
+pub struct Part {
+    pub offset: usize,
+    pub long: usize,
+}
+
+// Where look up finds a body.
 pub enum Place {
-    InVolatile(usize, usize),
-    InSaved(usize, usize),
-    Nowhere(Refusal),
+    InVolatile(Part),
+    InSaved(Part),
+    Refused(Refusal),
 }
 
 // What stands at a place of a store.
@@ -44,17 +40,17 @@ enum Front {
 }
 
 // Where a macro stands in a store.
-struct Gap {
+pub struct Gap {
     // where its entry begins, or would begin
-    at: usize,
+    pub at: usize,
     // where its entry ends; `at`, where it has none
-    old: usize,
+    pub old: usize,
     // where all entries end
-    end: usize,
+    pub end: usize,
 }
 
 // What one pass over a store finds.
-enum Survey {
+pub enum Survey {
     // it is well formed; where the macro stands
     Formed(Gap),
     Malformed,
@@ -122,7 +118,7 @@ fn headed_at(store: &[u8], at: usize) -> Front
 // The entry at a place, if it may stand there with `least` the least number that it may have.
 fn entry_at(store: &[u8], at: usize, least: usize) -> Front
     requires { ⌜ at ≤ length (now store) ⌝ }
-    ensures { λ r. ⌜ FrontIs threeBytes (isEntry threeBytes least) (now (store .entry)) at r ⌝ }
+    ensures { λ r. ⌜ FrontIs threeBytes (isStoreEntry threeBytes least) (now (store .entry)) at r ⌝ }
 {
     let Front::Here(number, from, to) = headed_at(store, at) else {
         return Front::NoEntry;
@@ -190,8 +186,8 @@ fn gap_for(store: &[u8], number: usize) -> Gap
     }
 }
 
-// Entries, and then all zeros; a store of length 0 is well formed.
-fn inspect(store: &[u8], number: usize) -> Survey
+// Whether a store is well formed, which is entries and then all zeros, and where a macro stands in it; a store of length 0 is well formed.
+pub fn inspect(store: &[u8], number: usize) -> Survey
     ensures { λ r. ⌜ SurveyIs threeBytes (now (store .entry)) number r ⌝ }
 {
     let gap = gap_for(store, number);
@@ -215,29 +211,35 @@ pub fn is_well_formed(store: &[u8]) -> bool
 
 // Where the body stands, in the volatile store if it is there, otherwise in the saved store: 12, 8 and 14, in that order.
 pub fn locate<'a>(volatile: &'a [u8], saved: &'a [u8], number: i32) -> Place
-    ensures { λ r. ⌜ placeOf r ≡ placed threeBytes (now (volatile .entry)) (now (saved .entry)) number ⌝ }
+    ensures { λ r. ⌜ bodyPlaceOf r ≡ placed threeBytes (now (volatile .entry)) (now (saved .entry)) number ⌝ }
 {
     let n = signs::magnitude(number) as usize;
     let Survey::Formed(first) = inspect(volatile, n) else {
-        return Place::Nowhere(Refusal::StoreMalformed);
+        return Place::Refused(Refusal::StoreMalformed);
     };
     let Survey::Formed(second) = inspect(saved, n) else {
-        return Place::Nowhere(Refusal::StoreMalformed);
+        return Place::Refused(Refusal::StoreMalformed);
     };
     if !ranges::is_within(0, 32767, number) {
-        return Place::Nowhere(Refusal::NotValid);
+        return Place::Refused(Refusal::NotValid);
     }
     if first.at < first.old {
         let from = first.at + HEADER;
         let long = first.old - from;
-        return Place::InVolatile(from, long);
+        return Place::InVolatile(Part {
+            offset: from,
+            long: long,
+        });
     }
     if second.at < second.old {
         let from = second.at + HEADER;
         let long = second.old - from;
-        return Place::InSaved(from, long);
+        return Place::InSaved(Part {
+            offset: from,
+            long: long,
+        });
     }
-    Place::Nowhere(Refusal::NoSuchMacro)
+    Place::Refused(Refusal::NoSuchMacro)
 }
 
 // The body as part of whichever store holds it; an empty part where there is none.
@@ -245,15 +247,17 @@ pub fn look_up<'a>(volatile: &'a [u8], saved: &'a [u8], number: i32) -> &'a [u8]
     ensures { λ r. ⌜ now r ≡ lookedUp threeBytes (now (volatile .entry)) (now (saved .entry)) number ⌝ }
 {
     match locate(volatile, saved, number) {
-        Place::InVolatile(from, long) => {
-            let to = from + long;
+        Place::InVolatile(part) => {
+            let from = part.offset;
+            let to = from + part.long;
             &volatile[from..to]
         }
-        Place::InSaved(from, long) => {
-            let to = from + long;
+        Place::InSaved(part) => {
+            let from = part.offset;
+            let to = from + part.long;
             &saved[from..to]
         }
-        Place::Nowhere(_) => &saved[..0],
+        Place::Refused(_) => &saved[..0],
     }
 }
 
@@ -262,9 +266,9 @@ pub fn found<'a>(volatile: &'a [u8], saved: &'a [u8], number: i32) -> Finding
     ensures { λ r. ⌜ findingOf r ≡ findRefusal threeBytes (now (volatile .entry)) (now (saved .entry)) number ⌝ }
 {
     match locate(volatile, saved, number) {
-        Place::InVolatile(_, _) => Finding::Found,
-        Place::InSaved(_, _) => Finding::Found,
-        Place::Nowhere(refusal) => Finding::NotFound(refusal),
+        Place::InVolatile(_) => Finding::Found,
+        Place::InSaved(_) => Finding::Found,
+        Place::Refused(refusal) => Finding::Refused(refusal),
     }
 }
 
@@ -306,147 +310,4 @@ pub fn look_by_headers<'a>(volatile: &'a [u8], saved: &'a [u8], number: i32) -> 
         return body;
     }
     body_by_headers(saved, n)
-}
-
-// ---- moving a stretch within a store
-
-// Towards the front: from the first byte on.
-fn move_down(store: &mut [u8], from: usize, to: usize, n: usize)
-    requires { ⌜ (to ≤ from) × (from + n ≤ length (now store)) ⌝ }
-    ensures { λ r. ⌜ now (store .exit) ≡ sets (now (store .entry)) to (take n (drop from (now (store .entry)))) ⌝ }
-{
-    let mut i = 0;
-    while i < n {
-        let next = store[from + i];
-        store[to + i] = next;
-        i += 1;
-    }
-}
-
-// Towards the end: from the last byte on.
-fn move_up(store: &mut [u8], from: usize, to: usize, n: usize)
-    requires { ⌜ (from ≤ to) × (to + n ≤ length (now store)) ⌝ }
-    ensures { λ r. ⌜ now (store .exit) ≡ sets (now (store .entry)) to (take n (drop from (now (store .entry)))) ⌝ }
-{
-    let mut left = n;
-    while left > 0 {
-        left -= 1;
-        let next = store[from + left];
-        store[to + left] = next;
-    }
-}
-
-fn move_within(store: &mut [u8], from: usize, to: usize, n: usize)
-    requires { ⌜ (from + n ≤ length (now store)) × (to + n ≤ length (now store)) ⌝ }
-    ensures { λ r. ⌜ now (store .exit) ≡ sets (now (store .entry)) to (take n (drop from (now (store .entry)))) ⌝ }
-{
-    if to <= from {
-        move_down(store, from, to, n);
-    } else {
-        move_up(store, from, to, n);
-    }
-}
-
-// ---- writing an entry
-
-fn write_header(store: &mut [u8], at: usize, number: usize, long: usize)
-    requires { ⌜ (at + 3 ≤ length (now store)) × (number ≤ 32767) × (long ≤ 256) ⌝ }
-    ensures { λ r. ⌜ now (store .exit) ≡ sets (now (store .entry)) at (threeBytes .pack number long) ⌝ }
-{
-    let packed = number * 512 + long;
-    let first = (packed / 65536) as u8;
-    let second = (packed / 256 % 256) as u8;
-    let third = (packed % 256) as u8;
-    store[at] = first;
-    store[at + 1] = second;
-    store[at + 2] = third;
-}
-
-fn clear_from(store: &mut [u8], at: usize)
-    ensures { λ r. ⌜ now (store .exit) ≡ sets (now (store .entry)) at (replicate (length (now (store .entry)) - at) 0) ⌝ }
-{
-    let mut i = at;
-    while i < store.len() {
-        store[i] = 0;
-        i += 1;
-    }
-}
-
-// How many bytes the entry of a body takes; a macro with no body has none.
-fn entry_size(count: usize) -> usize
-    requires { ⌜ count ≤ 256 ⌝ }
-    ensures { λ r. ⌜ r ≡ roomFor threeBytes count ⌝ }
-{
-    if count == 0 {
-        return 0;
-    }
-    HEADER + count
-}
-
-fn write_entry(store: &mut [u8], at: usize, number: usize, contents: &[i32])
-    requires { ⌜ (at + roomFor threeBytes (length (now contents)) ≤ length (now store)) × (number ≤ 32767) ⌝ }
-    requires { ⌜ (length (now contents) ≤ 256) × (every (within 0 127) (now contents) ≡ true) ⌝ }
-    ensures { λ r. ⌜ now (store .exit) ≡ sets (now (store .entry)) at (encoded threeBytes (one number (map natAbs (now (contents .entry))))) ⌝ }
-{
-    let count = contents.len();
-    if count == 0 {
-        return;
-    }
-    write_header(store, at, number, count);
-    let from = at + HEADER;
-    characters::lay(contents, store, from);
-}
-
-// ---- defining
-
-// The new entries in the place of the old ones, if they fit: what stands behind the macro is moved, its entry is written,
-// and what is then left is cleared.
-fn rewrite(store: &mut [u8], gap: Gap, number: usize, contents: &[i32]) -> bool
-    requires { ⌜ GapIs threeBytes (now store) number gap ⌝ }
-    requires { ⌜ (number ≤ 32767) × (length (now contents) ≤ 256) × (every (within 0 127) (now contents) ≡ true) ⌝ }
-    ensures { λ r. ⌜ (r ≡ fitsIn threeBytes (now (store .entry)) number (map natAbs (now (contents .entry)))) × (now (store .exit) ≡ putIn threeBytes (now (store .entry)) number (map natAbs (now (contents .entry)))) ⌝ }
-{
-    let at = gap.at;
-    let old = gap.old;
-    let tail = gap.end - old;
-    let kept = at + tail;
-    let size = entry_size(contents.len());
-    if store.len() - kept < size {
-        return false;
-    }
-    let new = at + size;
-    move_within(store, old, new, tail);
-    write_entry(store, at, number, contents);
-    clear_from(store, new + tail);
-    true
-}
-
-// "Numbers 0..32767, contents 0..127, at most 256 of them."
-fn may_define(number: i32, contents: &[i32]) -> bool
-    ensures { λ r. ⌜ r ≡ mayDefine threeBytes number (now (contents .entry)) ⌝ }
-{
-    if contents.len() > LONGEST {
-        return false;
-    }
-    if ranges::is_within(0, 32767, number) {
-        return ranges::are_within(0, 127, contents);
-    }
-    false
-}
-
-// A macro is set, replaced or, by an empty array, deleted: 12, 8 and 13, in that order.
-pub fn define(store: &mut [u8], number: i32, contents: &[i32]) -> Defining
-    ensures { λ r. ⌜ (definingOf r ≡ defineRefusal threeBytes (now (store .entry)) number (now (contents .entry))) × (now (store .exit) ≡ storeAfter threeBytes (now (store .entry)) number (now (contents .entry))) ⌝ }
-{
-    let n = signs::magnitude(number) as usize;
-    let Survey::Formed(gap) = inspect(store, n) else {
-        return Defining::NotDefined(Refusal::StoreMalformed);
-    };
-    if !may_define(number, contents) {
-        return Defining::NotDefined(Refusal::NotValid);
-    }
-    if rewrite(store, gap, n, contents) {
-        return Defining::Defined;
-    }
-    Defining::NotDefined(Refusal::StoreTooShort)
 }

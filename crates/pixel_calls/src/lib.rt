@@ -1,7 +1,7 @@
 // The pixel calls for programs in other languages (include/ardhrumesh.h): the beam record is a lent array, the answer is a number.
 ghost use mathlib.Core.Path.{_≡_};
 ghost use lib.ListN.{length};
-ghost use Rattle.coordinates.specs.Coordinates.{pointOf};
+ghost use Rattle.coordinates.specs.Coordinates.{pointGiven};
 ghost use Rattle.beam.specs.Settings.{settingOf, makeFresh, setBits, setViewport, setBeam, makeStep};
 ghost use Rattle.pixels.specs.Writes.{drawingOf, drawRaster, rasterSurface, drawRuns, runsSurface};
 ghost use Rattle.pixel_calls.specs.Fields.{beamIn, fieldsOf};
@@ -147,10 +147,10 @@ pub extern "C" fn ardh_set_viewport(
     x2: i32,
     y2: i32,
 ) -> u8
-    ensures { λ r. ⌜ HandsSettled (setViewport w h (beamIn (now (fields .entry))) (pointOf x y) (pointOf x2 y2)) r (now (fields .exit)) ⌝ }
+    ensures { λ r. ⌜ HandsSettled (setViewport w h (beamIn (now (fields .entry))) (pointGiven x y) (pointGiven x2 y2)) r (now (fields .exit)) ⌝ }
 {
-    let from = coordinates::point_of(x, y);
-    let to = coordinates::point_of(x2, y2);
+    let from = coordinates::point_given(x, y);
+    let to = coordinates::point_given(x2, y2);
     let setting = beam::set_viewport(w, h, beam_in(fields), from, to);
     let handed = of_setting(setting);
     let back = handed.fields;
@@ -161,9 +161,9 @@ pub extern "C" fn ardh_set_viewport(
 // RH
 #[no_mangle]
 pub extern "C" fn ardh_set_beam(w: usize, h: usize, fields: &mut [usize; 7], x: i32, y: i32) -> u8
-    ensures { λ r. ⌜ HandsSettled (setBeam w h (beamIn (now (fields .entry))) (pointOf x y)) r (now (fields .exit)) ⌝ }
+    ensures { λ r. ⌜ HandsSettled (setBeam w h (beamIn (now (fields .entry))) (pointGiven x y)) r (now (fields .exit)) ⌝ }
 {
-    let to = coordinates::point_of(x, y);
+    let to = coordinates::point_given(x, y);
     let setting = beam::set_beam(w, h, beam_in(fields), to);
     let handed = of_setting(setting);
     let back = handed.fields;

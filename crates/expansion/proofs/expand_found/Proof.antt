@@ -1,4 +1,4 @@
-use Rattle.expansion.proofs.Answering.{stopped-told, stopped-out, short-told, short-out, done-told, done-out}
+use Rattle.expansion.proofs.Answering.{look-refused-told, look-refused-out, short-told, short-out, done-told, done-out}
 use borrow.Author.Needs.{needs}
 use Rattle.expansion.proofs.expand_found.Statement.{statement}
 use Rattle.expansion.proofs.expand_found.Tie as tie
@@ -19,7 +19,7 @@ run-requires : tie.Need-run-requires
 run-requires c κs = search needs
 
 returns-2 : tie.Need-returns-2
-returns-2 c = search (needs, stopped-told, stopped-out)
+returns-2 c = search (needs, look-refused-told, look-refused-out)
 
 same-length : tie.Need-same-length
 same-length c = search needs

@@ -6,8 +6,8 @@ use Rattle.macro_calls.proofs.ardh_expand.Tie as tie
 expand-requires : tie.Need-expand-requires
 expand-requires c κs = search needs
 
-enum-known-written : tie.Need-enum-known-written
-enum-known-written c = search needs
+enum-known-come : tie.Need-enum-known-come
+enum-known-come c = search needs
 
 enum-known-e : tie.Need-enum-known-e
 enum-known-e c = search needs
@@ -32,7 +32,7 @@ ardh-expand-spec =
     tie.close
     (tie.spec
     expand-requires
-    enum-known-written
+    enum-known-come
     enum-known-e
     number-requires
     same-length

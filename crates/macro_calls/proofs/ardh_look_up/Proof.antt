@@ -6,11 +6,11 @@ use Rattle.macro_calls.proofs.ardh_look_up.Tie as tie
 locate-requires : tie.Need-locate-requires
 locate-requires c κs = search needs
 
-enum-known-from : tie.Need-enum-known-from
-enum-known-from c = search needs
+enum-known-part : tie.Need-enum-known-part
+enum-known-part c = search needs
 
-enum-known-from-2 : tie.Need-enum-known-from-2
-enum-known-from-2 c = search needs
+enum-known-part-2 : tie.Need-enum-known-part-2
+enum-known-part-2 c = search needs
 
 enum-known-e : tie.Need-enum-known-e
 enum-known-e c = search needs
@@ -32,8 +32,8 @@ ardh-look-up-spec =
     tie.close
     (tie.spec
     locate-requires
-    enum-known-from
-    enum-known-from-2
+    enum-known-part
+    enum-known-part-2
     enum-known-e
     number-requires
     returns

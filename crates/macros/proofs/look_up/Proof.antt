@@ -6,8 +6,8 @@ use Rattle.macros.proofs.look_up.Tie as tie
 locate-requires : tie.Need-locate-requires
 locate-requires c κs = search needs
 
-enum-known-from : tie.Need-enum-known-from
-enum-known-from c = search needs
+enum-known-part : tie.Need-enum-known-part
+enum-known-part c = search needs
 
 add-to : tie.Need-add-to
 add-to c = search (needs, findings)
@@ -21,8 +21,8 @@ part-result-start c = search needs
 part-result-end : tie.Need-part-result-end
 part-result-end c = search (needs, findings)
 
-enum-known-from-2 : tie.Need-enum-known-from-2
-enum-known-from-2 c = search needs
+enum-known-part-2 : tie.Need-enum-known-part-2
+enum-known-part-2 c = search needs
 
 add-to-2 : tie.Need-add-to-2
 add-to-2 c = search (needs, findings)
@@ -56,12 +56,12 @@ look-up-spec =
     tie.close
     (tie.spec
     locate-requires
-    enum-known-from
+    enum-known-part
     add-to
     sub-result
     part-result-start
     part-result-end
-    enum-known-from-2
+    enum-known-part-2
     add-to-2
     sub-result-2
     part-result-start-2

@@ -4,8 +4,8 @@ use borrow.Author.Needs.{needs}
 use Rattle.pixel_calls.proofs.ardh_set_beam.Statement.{statement}
 use Rattle.pixel_calls.proofs.ardh_set_beam.Tie as tie
 
-point-of-requires : tie.Need-point-of-requires
-point-of-requires c κs = search needs
+point-given-requires : tie.Need-point-of-requires
+point-given-requires c κs = search needs
 
 beam-in-requires : tie.Need-beam-in-requires
 beam-in-requires c κs = search needs
@@ -22,4 +22,4 @@ returns c = search (needs, settled-so, beam-given, point-given)
 pub ardh-set-beam-spec : {M : Type 1} → statement M
 ardh-set-beam-spec =
     tie.close
-    (tie.spec point-of-requires beam-in-requires set-beam-requires of-setting-requires returns)
+    (tie.spec point-given-requires beam-in-requires set-beam-requires of-setting-requires returns)

@@ -4,11 +4,11 @@ use borrow.Author.Needs.{needs}
 use Rattle.pixel_calls.proofs.ardh_set_viewport.Statement.{statement}
 use Rattle.pixel_calls.proofs.ardh_set_viewport.Tie as tie
 
-point-of-requires : tie.Need-point-of-requires
-point-of-requires c κs = search needs
+point-given-requires : tie.Need-point-of-requires
+point-given-requires c κs = search needs
 
-point-of-requires-2 : tie.Need-point-of-requires-2
-point-of-requires-2 c κs = search needs
+point-given-requires-2 : tie.Need-point-of-requires-2
+point-given-requires-2 c κs = search needs
 
 beam-in-requires : tie.Need-beam-in-requires
 beam-in-requires c κs = search needs
@@ -26,8 +26,8 @@ pub ardh-set-viewport-spec : {M : Type 1} → statement M
 ardh-set-viewport-spec =
     tie.close
     (tie.spec
-    point-of-requires
-    point-of-requires-2
+    point-given-requires
+    point-given-requires-2
     beam-in-requires
     set-viewport-requires
     of-setting-requires

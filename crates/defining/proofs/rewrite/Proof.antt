@@ -1,7 +1,7 @@
-use Rattle.macros.proofs.Placing.{placings}
+use Rattle.defining.proofs.Placing.{placings}
 use borrow.Author.Needs.{needs}
-use Rattle.macros.proofs.rewrite.Statement.{statement}
-use Rattle.macros.proofs.rewrite.Tie as tie
+use Rattle.defining.proofs.rewrite.Statement.{statement}
+use Rattle.defining.proofs.rewrite.Tie as tie
 
 sub-tail : tie.Need-sub-tail
 sub-tail c = search needs

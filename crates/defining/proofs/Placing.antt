@@ -5,7 +5,7 @@ use mathlib.Core.Bool.{Bool, true, false, not, _&&_}
 use mathlib.Core.List.{List, [], _∷_, _++_, map, append-nil, append-assoc}
 use native.Mathlib.Omega.{arith}
 use native.Mathlib.Numerals.{add-one}
-use borrow.Author.Tests.{le-leb, lt-leb, eq-eqb, ne-eqb, leb-true, not-true, not-false}
+use borrow.Author.Tests.{le-leb, lt-leb, leb-true, not-true, not-false}
 use lib.Dec.{leb}
 use lib.ListN.{length, take, drop, replicate, length-append, length-replicate, length-take, length-drop, length-map, take-append-drop}
 use lib.Seq.{sets, sets-eq, length-sets, take-add, drop-drop, take-at, drop-at, drop-append-add}
@@ -24,30 +24,18 @@ use Rattle.ranges.specs.Ranges.{within}
 use Rattle.ranges.proofs.Entries.{within-range}
 use Rattle.characters.specs.Characters.{lowBytes}
 use Rattle.characters.proofs.Entries.{all-bytes}
 use Rattle.macros.specs.declared.Gap.{Gap}
 use Rattle.macros.specs.declared.Survey.{Survey}
 use Rattle.macros.specs.declared.Survey.the-variants.{Formed, Malformed}
-use Rattle.macros.specs.declared.Defining.the-variants.{Defined, NotDefined}
-use Rattle.macros.specs.Store.{Entry, Layout, encoded, sizeOf, stored, entries, wellFormed, keep, below, above, one, put, isNumber, mayDefine, beforeRoom, defineRefusal, storeAfter, definingOf}
-use Rattle.macros.specs.Fronts.{Bytes, GapIs, SurveyIs, roomFor, fitsIn, putIn}
+use Rattle.defining.specs.declared.Defining.the-variants as Defining
+use Rattle.macros.specs.Store.{Entry, Layout, encoded, sizeOf, stored, entries, wellFormed, keep, below, isMacroNumber, entrySize}
+use Rattle.macros.specs.Fronts.{Bytes, GapIs, SurveyIs}
+use Rattle.defining.specs.Defining.{above, one, put, mayDefine, beforeRoom, defineRefusal, storeAfter, definingOf, fitsIn, putIn}
 use Rattle.macros.proofs.Layouts.{Lawful, three-size, three-longest, three-lawful}
-use Rattle.macros.proofs.Reading.{size-cons, size-nil, and-no}
-use Rattle.macros.proofs.Listing.{entries-valid, whole-store, parted}
+use Rattle.macros.proofs.Reading.{size-cons, size-nil, and-no, room-none, room-some, room-header}
+use Rattle.macros.proofs.Listing.{entries-rising, whole-store}
 use Rattle.macros.proofs.Fronts.{formed-of, malformed-of}
-
--- ---- the room of an entry
-
-module _ (L : Layout) (count : ℕ) where
-  pub room-none : count ≡ 0 → 0 ≡ roomFor L count
-  unfolding roomFor
-  room-none e = rw (eq-eqb count 0 e)
-
-  pub room-some : {size : ℕ} → size ≡ L .size → (count ≡ 0 → ⊥) → size + count ≡ roomFor L count
-  unfolding roomFor
-  room-some e h = rw (ne-eqb count 0 h, e)
-
-  pub room-header : {size : ℕ} (at n : ℕ) → size ≡ L .size → (count ≡ 0 → ⊥) → at + roomFor L count ≤ n → at + size ≤ n
-  room-header at n e h g = omega (arith, room-some e h, g)
+use Rattle.defining.proofs.Putting.{parted}
 
 pub ruleset rooms = (three-size, room-none, room-some)
 
@@ -59,7 +47,7 @@ one-encoded L n (c ∷ cs) h =
     ap (λ (k : ℕ). L .pack n k ++ map natAbs (c ∷ cs)) (sym (length-map (c ∷ cs) natAbs))
     ∙ ap (λ (l : List ℕ). L .pack n (length (map natAbs (c ∷ cs))) ++ l) (sym (append-nil (map natAbs (c ∷ cs))))
 
-one-size : (L : Layout) → Lawful L → (n : ℕ) (cs : List ℤ) → sizeOf L (one n (map natAbs cs)) ≡ roomFor L (length cs)
+one-size : (L : Layout) → Lawful L → (n : ℕ) (cs : List ℤ) → sizeOf L (one n (map natAbs cs)) ≡ entrySize L (length cs)
 one-size L lawful n [] = size-nil L ∙ room-none L 0 refl
 one-size L lawful n (c ∷ cs) =
     size-cons L lawful (record { number = n; body = map natAbs (c ∷ cs) }) []
@@ -110,7 +98,7 @@ module _ (L : Layout) (lawful : Lawful L) (s : List ℕ) (n : ℕ) (bytes : Byte
 
   -- those up to the number, and those above it
   upto-above : below (n + 1) es ++ above n es ≡ es
-  upto-above = ap (λ (k : ℕ). below (n + 1) es ++ keep (λ x. leb k x) es) (sym (add-one n)) ∙ parted L (n + 1) 0 es (entries-valid L lawful s bytes)
+  upto-above = ap (λ (k : ℕ). below (n + 1) es ++ keep (λ x. leb k x) es) (sym (add-one n)) ∙ parted L (n + 1) 0 es (entries-rising L lawful s bytes)
 
   size-above : sizeOf L (below (n + 1) es) + sizeOf L (above n es) ≡ sizeOf L es
   size-above = sym (size-append L (below (n + 1) es) (above n es)) ∙ ap (sizeOf L) upto-above
@@ -120,7 +108,7 @@ module _ (L : Layout) (lawful : Lawful L) (s : List ℕ) (n : ℕ) (bytes : Byte
       let rest : List Entry = keep (λ x. leb n x) es in
       let e : s ≡ encoded L (below n es) ++ (encoded L rest ++ drop (sizeOf L es) s)
       = sym (whole-store L lawful s bytes)
-      ∙ ap (λ (l : List Entry). encoded L l ++ drop (sizeOf L es) s) (sym (parted L n 0 es (entries-valid L lawful s bytes)))
+      ∙ ap (λ (l : List Entry). encoded L l ++ drop (sizeOf L es) s) (sym (parted L n 0 es (entries-rising L lawful s bytes)))
       ∙ ap (λ (l : List ℕ). l ++ drop (sizeOf L es) s) (encoded-append L (below n es) rest)
       ∙ append-assoc (encoded L (below n es)) (encoded L rest) (drop (sizeOf L es) s) in
       ap (take (sizeOf L (below n es))) e ∙ take-at (encoded L (below n es)) (encoded L rest ++ drop (sizeOf L es) s) (sizeOf L (below n es)) refl
@@ -179,7 +167,7 @@ placed s O A a t z et ez le =
 
 -- ---- the new entries in a store
 
-module _ (L : Layout) (lawful : Lawful L) (s : List ℕ) (n : ℕ) (cs : List ℤ) {g : Gap} (gap : GapIs L s n g) {size : ℕ} (room : size ≡ roomFor L (length cs)) where
+module _ (L : Layout) (lawful : Lawful L) (s : List ℕ) (n : ℕ) (cs : List ℤ) {g : Gap} (gap : GapIs L s n g) {size : ℕ} (room : size ≡ entrySize L (length cs)) where
   abbrev b : List ℕ
   b = map natAbs cs
 
@@ -242,11 +230,11 @@ pub ruleset placings = (three-size, three-lawful, no-fit, not-touched, a-fit, re
 module _ (L : Layout) (n : ℤ) (cs : List ℤ) where
   pub too-many : {longest : ℕ} → longest ≡ L .longest → longest < length cs → false ≡ mayDefine L n cs
   unfolding mayDefine
-  too-many e h = rw (lt-leb (length cs) (L .longest) (omega (arith, e, h))) (sym (and-no (isNumber n)))
+  too-many e h = rw (lt-leb (length cs) (L .longest) (omega (arith, e, h))) (sym (and-no (isMacroNumber n)))
 
   -- the number comes back from the callee's contract as the machine reads it
   module _ (f : SFits w32 n) {k : Bool} (ek : k ≡ within 0 32767 (toZ w32 (ofZ w32 n))) where
-    number-of : {t : Bool} → k ≡ t → isNumber n ≡ t
+    number-of : {t : Bool} → k ≡ t → isMacroNumber n ≡ t
     number-of e = sym (rw (toZ-ofZ f) at ek) ∙ e
 
     pub number-outside : k ≡ false → false ≡ mayDefine L n cs
@@ -267,7 +255,7 @@ goes-on a b next x y = rw (x, y)
 
 module _ (L : Layout) (s : List ℕ) (n : ℤ) (cs : List ℤ) where
   module _ (e : Refusal) (q : defineRefusal L s n cs ≡ numberOf e) where
-    refused-said : definingOf (NotDefined e) ≡ defineRefusal L s n cs
+    refused-said : definingOf (Defining.Refused e) ≡ defineRefusal L s n cs
     unfolding definingOf
     refused-said = sym q
 
@@ -281,7 +269,7 @@ module _ (L : Layout) (s : List ℕ) (n : ℤ) (cs : List ℤ) where
       unfolding defineRefusal beforeRoom
       twelve = rw (malformed-of L s k er e)
 
-      pub malformed : definingOf (NotDefined StoreMalformed) ≡ defineRefusal L s n cs
+      pub malformed : definingOf (Defining.Refused StoreMalformed) ≡ defineRefusal L s n cs
       malformed = refused-said StoreMalformed twelve
 
       pub malformed-kept : s ≡ storeAfter L s n cs
@@ -300,19 +288,19 @@ module _ (L : Layout) (s : List ℕ) (n : ℤ) (cs : List ℤ) where
           unfolding defineRefusal beforeRoom
           eight = rw (formed-of L s k er eg .formed, may-is (not-true w t))
 
-          pub may-not : definingOf (NotDefined NotValid) ≡ defineRefusal L s n cs
+          pub may-not : definingOf (Defining.Refused NotValid) ≡ defineRefusal L s n cs
           may-not = refused-said NotValid eight
 
           pub may-not-kept : s ≡ storeAfter L s n cs
           may-not-kept = refused-kept NotValid eight
 
         module _ (t : not w ≡ false) where
-          allowed : isNumber n && (leb (length cs) (L .longest) && every (within 0 127) cs) ≡ true
+          allowed : isMacroNumber n && (leb (length cs) (L .longest) && every (within 0 127) cs) ≡ true
           unfolding mayDefine
           allowed = may-is (not-false w t)
 
           contents-allowed : leb (length cs) (L .longest) && every (within 0 127) cs ≡ true
-          contents-allowed = and-right (isNumber n) (leb (length cs) (L .longest) && every (within 0 127) cs) allowed
+          contents-allowed = and-right (isMacroNumber n) (leb (length cs) (L .longest) && every (within 0 127) cs) allowed
 
           pub count-allowed : {longest : ℕ} → longest ≡ L .longest → length cs ≤ longest
           count-allowed e =
@@ -327,7 +315,7 @@ module _ (L : Layout) (s : List ℕ) (n : ℤ) (cs : List ℤ) where
 
           pub number-allowed : k ≤ 32767
           number-allowed =
-              let h : natAbs n ≤ 32767 = within-range 0 32767 n (and-left (isNumber n) (leb (length cs) (L .longest) && every (within 0 127) cs) allowed) .1 .0 in
+              let h : natAbs n ≤ 32767 = within-range 0 32767 n (and-left (isMacroNumber n) (leb (length cs) (L .longest) && every (within 0 127) cs) allowed) .1 .0 in
               omega (arith, number-is, h)
 
           module _ {q : Bool} (eq : q ≡ fitsIn L s k (map natAbs cs)) where
@@ -339,7 +327,7 @@ module _ (L : Layout) (s : List ℕ) (n : ℤ) (cs : List ℤ) where
                 ∙ ap (λ (x : Bool). demand x 13 0) (sym eq)
 
             module _ {u : List ℕ} (eu : u ≡ putIn L s k (map natAbs cs)) where
-              pub is-defined : q ≡ true → definingOf Defined ≡ defineRefusal L s n cs
+              pub is-defined : q ≡ true → definingOf Defining.Defined ≡ defineRefusal L s n cs
               unfolding definingOf
               is-defined e = sym (last ∙ rw e)
 
@@ -347,7 +335,7 @@ module _ (L : Layout) (s : List ℕ) (n : ℤ) (cs : List ℤ) where
               unfolding storeAfter putIn
               store-defined e = rw (last, e) (eu ∙ rw (← eq, e) (ap (λ (m : ℕ). stored L (length s) (put m (map natAbs cs) (entries L s))) number-is))
 
-              pub does-not-fit : q ≡ false → definingOf (NotDefined StoreTooShort) ≡ defineRefusal L s n cs
+              pub does-not-fit : q ≡ false → definingOf (Defining.Refused StoreTooShort) ≡ defineRefusal L s n cs
               unfolding definingOf
               does-not-fit e = sym (last ∙ rw e)
 

@@ -1,7 +1,7 @@
-use Rattle.macros.proofs.Placing.{allowances}
+use Rattle.defining.proofs.Placing.{allowances}
 use borrow.Author.Needs.{needs}
-use Rattle.macros.proofs.may_define.Statement.{statement}
-use Rattle.macros.proofs.may_define.Tie as tie
+use Rattle.defining.proofs.may_define.Statement.{statement}
+use Rattle.defining.proofs.may_define.Tie as tie
 
 returns : tie.Need-returns
 returns c = search (needs, allowances)

@@ -1,7 +1,7 @@
-use Rattle.macros.proofs.Placing.{definings}
+use Rattle.defining.proofs.Placing.{definings}
 use borrow.Author.Needs.{needs}
-use Rattle.macros.proofs.define.Statement.{statement}
-use Rattle.macros.proofs.define.Tie as tie
+use Rattle.defining.proofs.define.Statement.{statement}
+use Rattle.defining.proofs.define.Tie as tie
 
 magnitude-requires : tie.Need-magnitude-requires
 magnitude-requires c κs = search needs

@@ -1,6 +1,6 @@
 use borrow.Author.Needs.{needs}
-use Rattle.macros.proofs.move_within.Statement.{statement}
-use Rattle.macros.proofs.move_within.Tie as tie
+use Rattle.defining.proofs.move_within.Statement.{statement}
+use Rattle.defining.proofs.move_within.Tie as tie
 
 move-down-requires : tie.Need-move-down-requires
 move-down-requires c κs = search needs

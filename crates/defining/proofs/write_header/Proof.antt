@@ -1,9 +1,9 @@
 use native.Mathlib.Omega.{arith}
 use lib.ListN.{length-set}
-use Rattle.macros.proofs.Writing.{header-set}
+use Rattle.defining.proofs.Writing.{header-set}
 use borrow.Author.Needs.{needs}
-use Rattle.macros.proofs.write_header.Statement.{statement}
-use Rattle.macros.proofs.write_header.Tie as tie
+use Rattle.defining.proofs.write_header.Statement.{statement}
+use Rattle.defining.proofs.write_header.Tie as tie
 
 mul-packed : tie.Need-mul-packed
 mul-packed c = search needs

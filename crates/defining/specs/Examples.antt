@@ -6,7 +6,8 @@ use mathlib.Core.List.{List, [], _∷_, map}
 use lib.ListN.{replicate}
 use lib.IntN.{pos}
 use Rattle.refusals.specs.Answers.{every}
-use Rattle.macros.specs.Store.{threeBytes, encoded, isEntry, entriesFrom, wellFormed, keep, bodyOf, mayDefine, beforeRoom, defineRefusal, storeAfter, bodyInEither, lookRefusal, lookedUp, findRefusal, Placed, placed}
+use Rattle.macros.specs.Store.{threeBytes, encoded, isStoreEntry, frontEntries, wellFormed, keep, bodyOf, bodyInEither, lookRefusal, lookedUp, findRefusal, Placed, placed}
+use Rattle.defining.specs.Defining.{mayDefine, beforeRoom, defineRefusal, storeAfter}
 
 pub record Row : Type 0 where
   pub given : List ℕ
@@ -63,5 +64,5 @@ paper-of r = r .paper
 
 -- the one claim
 pub all-as-set : map given-of examples ≡ map paper-of examples
-unfolding threeBytes encoded isEntry entriesFrom wellFormed keep bodyOf mayDefine beforeRoom defineRefusal storeAfter bodyInEither lookRefusal lookedUp findRefusal placed every
+unfolding threeBytes encoded isStoreEntry frontEntries wellFormed keep bodyOf mayDefine beforeRoom defineRefusal storeAfter bodyInEither lookRefusal lookedUp findRefusal placed every
 all-as-set = refl

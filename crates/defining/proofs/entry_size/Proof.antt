@@ -1,7 +1,7 @@
-use Rattle.macros.proofs.Placing.{rooms}
+use Rattle.defining.proofs.Placing.{rooms}
 use borrow.Author.Needs.{needs}
-use Rattle.macros.proofs.entry_size.Statement.{statement}
-use Rattle.macros.proofs.entry_size.Tie as tie
+use Rattle.defining.proofs.entry_size.Statement.{statement}
+use Rattle.defining.proofs.entry_size.Tie as tie
 
 returns : tie.Need-returns
 returns c = search (needs, rooms)

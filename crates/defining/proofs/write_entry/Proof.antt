@@ -1,7 +1,7 @@
-use Rattle.macros.proofs.Placing.{writings}
+use Rattle.defining.proofs.Placing.{writings}
 use borrow.Author.Needs.{needs}
-use Rattle.macros.proofs.write_entry.Statement.{statement}
-use Rattle.macros.proofs.write_entry.Tie as tie
+use Rattle.defining.proofs.write_entry.Statement.{statement}
+use Rattle.defining.proofs.write_entry.Tie as tie
 
 returns : tie.Need-returns
 returns c = search (needs, writings)
