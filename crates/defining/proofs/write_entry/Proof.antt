@@ -12,8 +12,8 @@ write-header-requires c κs = search (needs, writings)
 add-from : tie.Need-add-from
 add-from c = search needs
 
-lay-requires : tie.Need-lay-requires
-lay-requires c κs = search needs
+copy-requires : tie.Need-copy-requires
+copy-requires c κs = search needs
 
 same-length : tie.Need-same-length
 same-length c = search needs
@@ -24,4 +24,4 @@ returns-2 c = search (needs, writings)
 pub write-entry-spec : {M : Type 1} → statement M
 write-entry-spec =
     tie.close
-    (tie.spec returns write-header-requires add-from lay-requires same-length returns-2)
+    (tie.spec returns write-header-requires add-from copy-requires same-length returns-2)

@@ -4,7 +4,7 @@ use borrow.Author.Needs.{needs}
 use Rattle.pixel_calls.proofs.ardh_set_beam.Statement.{statement}
 use Rattle.pixel_calls.proofs.ardh_set_beam.Tie as tie
 
-point-given-requires : tie.Need-point-of-requires
+point-given-requires : tie.Need-point-given-requires
 point-given-requires c κs = search needs
 
 beam-in-requires : tie.Need-beam-in-requires

@@ -4,10 +4,10 @@ use borrow.Author.Needs.{needs}
 use Rattle.pixel_calls.proofs.ardh_set_viewport.Statement.{statement}
 use Rattle.pixel_calls.proofs.ardh_set_viewport.Tie as tie
 
-point-given-requires : tie.Need-point-of-requires
+point-given-requires : tie.Need-point-given-requires
 point-given-requires c κs = search needs
 
-point-given-requires-2 : tie.Need-point-of-requires-2
+point-given-requires-2 : tie.Need-point-given-requires-2
 point-given-requires-2 c κs = search needs
 
 beam-in-requires : tie.Need-beam-in-requires
