@@ -122,7 +122,7 @@ wrong-ardh-write-command =
     -- 8 for "letters .. not in the table": not done, with nothing written
     ∷ but (commandSlots 78 88 (pos 0 ∷ pos 0 ∷ pos 0 ∷ pos 0 ∷ []) (9 ∷ [])) (0 ∷ 0 ∷ 0 ∷ 0 ∷ 9 ∷ [])
     -- a coordinate outside 0..4095 is refused, and not taken as 4095
-    ∷ but (commandSlots 76 70 (pos 4096 ∷ pos 0 ∷ pos 0 ∷ pos 0 ∷ []) (replicate 6 9)) (0 ∷ 6 ∷ 4095 ∷ 0 ∷ 27 ∷ 76 ∷ 70 ∷ 99 ∷ 63 ∷ 95 ∷ [])
+    ∷ but (commandSlots 76 70 (pos 4096 ∷ pos 0 ∷ pos 0 ∷ pos 0 ∷ []) (replicate 7 9)) (0 ∷ 7 ∷ 4095 ∷ 0 ∷ 27 ∷ 76 ∷ 70 ∷ 99 ∷ 96 ∷ 63 ∷ 95 ∷ [])
     ∷ []
 
 -- ---- all of them

@@ -53,7 +53,7 @@ wrong-write-integer-report =
     report-written (pos 40000) (9 ∷ 9 ∷ 9 ∷ []) (0 ∷ 3 ∷ 39 ∷ 36 ∷ 48 ∷ [])
     ∷ report-written (pos 65535) (9 ∷ 9 ∷ 9 ∷ []) (8 ∷ 0 ∷ 9 ∷ 9 ∷ 9 ∷ [])
     -- "600 is 32 69 56. Document 003's bytes for 600 and 300 are misprints"
-    ∷ report-written (pos 600) (9 ∷ 9 ∷ 9 ∷ []) (0 ∷ 3 ∷ 32 ∷ 69 ∷ 40 ∷ [])
+    ∷ report-written (pos 600) (9 ∷ 9 ∷ 9 ∷ []) (0 ∷ 3 ∷ 32 ∷ 67 ∷ 60 ∷ [])
     ∷ []
 
 abbrev string-written : List ℤ → List ℕ → List ℕ → Wrong
