@@ -136,7 +136,7 @@ wrong-piece-at =
     ∷ piece (65 ∷ []) 2 (0 ∷ [])
     -- a text byte takes one byte
     ∷ piece (65 ∷ []) 0 (1 ∷ 0 ∷ 0 ∷ 0 ∷ [])
-    -- "at most 256": an array of as many is no trouble
+    -- "A count is an integer 0..256": an array of 256 is no trouble
     ∷ piece ((27 ∷ 82 ∷ 68 ∷ 80 ∷ 48 ∷ []) ++ replicate 256 48) 0 (3 ∷ [])
     ∷ []
 
