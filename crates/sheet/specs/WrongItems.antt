@@ -56,6 +56,10 @@ wrong-read-item =
     ∷ item freshMemory (27 ∷ 82 ∷ 83 ∷ 96 ∷ 33 ∷ 64 ∷ 48 ∷ []) [] (3 ∷ 1 ∷ 7 ∷ 7 ∷ 128 ∷ 0 ∷ [])
     -- the remembered point goes on with a command
     ∷ item freshMemory (27 ∷ 76 ∷ 70 ∷ 121 ∷ 64 ∷ []) [] (2 ∷ 76 ∷ 70 ∷ 0 ∷ 5 ∷ 0 ∷ 0 ∷ 0 ∷ 0 ∷ 0 ∷ 100 ∷ [])
+    -- "In a parameter, ESC followed by 63 reads as 127": LT with one character
+    ∷ item freshMemory (27 ∷ 76 ∷ 84 ∷ 49 ∷ 27 ∷ 63 ∷ []) (pos 9 ∷ []) (3 ∷ 6 ∷ 4 ∷ 4 ∷ 0 ∷ 0 ∷ 0 ∷ 9 ∷ [])
+    -- "In a parameter, 27 at the end of the bytes is 1": not 6
+    ∷ item freshMemory (27 ∷ 76 ∷ 84 ∷ 49 ∷ 27 ∷ []) (pos 9 ∷ []) (3 ∷ 6 ∷ 4 ∷ 4 ∷ 0 ∷ 0 ∷ 0 ∷ 9 ∷ [])
     -- "Refusal 7 .. makes no item"
     ∷ item freshMemory (27 ∷ 82 ∷ 76 ∷ 49 ∷ 50 ∷ []) [] (3 ∷ 7 ∷ 0 ∷ 0 ∷ 0 ∷ 0 ∷ [])
     ∷ []

@@ -41,6 +41,8 @@ abbrev pub wrong-define : List Wrong
 wrong-define =
     -- "Order: 12, 8, 13"
     but (defined (1 ∷ []) 32768 []) (8 ∷ 1 ∷ [])
+    -- "Numbers 0..32767 (house rule), contents 0..127 .., else 8"
+    ∷ but (defined (replicate 8 0) 5 (128 ∷ [])) (0 ∷ 0 ∷ 10 ∷ 1 ∷ 128 ∷ 0 ∷ 0 ∷ 0 ∷ 0 ∷ [])
     -- "A new body replaces the old one, and all room so freed counts"
     ∷ but (defined five 5 (1 ∷ 2 ∷ 3 ∷ 4 ∷ 5 ∷ [])) (13 ∷ five)
     -- refused, the store is as it was

@@ -40,6 +40,7 @@ abbrev pub wrong-is-size : List Wrong
 wrong-is-size =
     -- "W and H are each 1..512"
     but (truth (isSize 513 1)) (1 ∷ [])
+    ∷ but (truth (isSize 512 512)) (0 ∷ [])
     ∷ but (truth (isSize 1 0)) (1 ∷ [])
     ∷ []
 
@@ -168,6 +169,8 @@ wrong-row-end =
     ∷ but (rastered six (pos 0) (pos 96 ∷ []) nines) (0 ∷ 0 ∷ 6 ∷ 0 ∷ 0 ∷ 1 ∷ 1 ∷ 0 ∷ 1 ∷ 9 ∷ 9 ∷ 9 ∷ 9 ∷ [])
     -- "round to the top after the last"
     ∷ but (rastered (6 ∷ 0 ∷ 0 ∷ 1 ∷ 1 ∷ 0 ∷ 0 ∷ []) (pos 0) (pos 96 ∷ []) nines) (0 ∷ 0 ∷ 6 ∷ 0 ∷ 0 ∷ 1 ∷ 1 ∷ 0 ∷ 0 ∷ 9 ∷ 9 ∷ 9 ∷ 9 ∷ [])
+    -- and not off the viewport, here one row
+    ∷ but (rastered (6 ∷ 0 ∷ 1 ∷ 1 ∷ 1 ∷ 0 ∷ 1 ∷ []) (pos 0) (pos 96 ∷ []) nines) (0 ∷ 0 ∷ 6 ∷ 0 ∷ 1 ∷ 1 ∷ 1 ∷ 0 ∷ 0 ∷ 9 ∷ 9 ∷ 9 ∷ 9 ∷ [])
     -- "Places passed over aren't counted in N"
     ∷ but (rastered six (pos 1) (pos 96 ∷ pos 37 ∷ []) nines) (0 ∷ 1 ∷ 6 ∷ 0 ∷ 0 ∷ 1 ∷ 1 ∷ 0 ∷ 0 ∷ 9 ∷ 9 ∷ 9 ∷ 9 ∷ [])
     -- "Characters other than 96 must still be just as many as N needs"
