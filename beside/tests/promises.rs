@@ -191,7 +191,7 @@ fn each_public_call_has_a_guard_or_is_a_helper() {
                 .find(|call| call.name == public && call.crates.contains(name));
             let row = row.unwrap_or_else(|| panic!("{name}::{public} has no row"));
             assert!(
-                helper != !row.guards.is_empty(),
+                helper == row.guards.is_empty(),
                 "{name}::{public}: a guard, or a helper"
             );
         }
