@@ -1,2 +1,1 @@
 pub mod Defining
-pub mod Examples

@@ -1,3 +1,2 @@
 pub mod Expansion
 pub mod Running
-pub mod Examples

@@ -14,6 +14,7 @@ use Rattle.memory.specs.Memory.{inside}
 use Rattle.refusals.specs.Answers.{Answer, done, refused, pick}
 use Rattle.refusals.proofs.Cases.{by-pick}
 use Rattle.commands.specs.Reading.{Meaning, commandAt}
+use Rattle.laws.specs.Laws.{Onward, Parted}
 use Rattle.laws.proofs.Shortest.{command-shown}
 use Rattle.laws.proofs.Places.{command-refused, after-inside}
 use Rattle.stream.specs.Items.{Itemed, nothing, text, command, trouble, unread, passed, passedFrom, asItem, commandItem, itemAt}
@@ -58,19 +59,6 @@ module _ (kept : Remembered) (s : List ℕ) (start room : ℕ) (j : inside (kept
       (by-pick (Ends s start) (eqb (getD s start 0) 27) _ _
       (λ t. answer-ends (commandAt kept s start room) refl)
       (λ t. (omega arith, omega arith)))
-
--- an item, and the rest behind it: where none is left the bytes are at their end, and only 7 holds reading up
-unfoldable pub Onward : (Remembered → ℕ → Type 0) → List ℕ → Remembered → ℕ → Itemed Meaning → Type 0
-Onward rest s kept start nothing = start ≡ length s
-Onward rest s kept start (text b n) = ((start < n) × (n ≤ length s)) × rest kept n
-Onward rest s kept start (command m) = ((start < m .next) × (m .next ≤ length s)) × rest (m .kept) (m .next)
-Onward rest s kept start (trouble e p n k) = ((start < n) × (n ≤ length s)) × rest k n
-Onward rest s kept start (unread e p) = e ≡ 7
-
--- the bytes from start on are cut into at most k items, each starting where the one before it ends, and the last ending with the bytes
-unfoldable pub Parted : List ℕ → ℕ → ℕ → Remembered → ℕ → Type 0
-Parted s room zero kept start = start ≡ length s
-Parted s room (suc k) kept start = Onward (Parted s room k) s kept start (itemAt kept s start room)
 
 onward : (s : List ℕ) (room k : ℕ) (kept : Remembered) (start : ℕ) → inside (kept .point) ≡ true → length s ≤ start + suc k → ((m : Remembered) (n : ℕ) → inside (m .point) ≡ true → length s ≤ n + k → n ≤ length s → Parted s room k m n) → (i : Itemed Meaning) → Ends s start i → Onward (Parted s room k) s kept start i
 unfolding Onward Ends

@@ -40,6 +40,7 @@ use Rattle.commands.specs.declared.Command.{Command}
 use Rattle.commands.specs.Reading.{letterAt, secondAt, headAt, Meaning, meaning, bodyAt, commandAt}
 use Rattle.writable.specs.Writable.{kindFor, kindNumber, sameKind, isKind, isEntry, areEntries, isValue, areValues, isTail, fits, isCommand}
 use Rattle.writing.specs.Writing.{spellEntry, spellEntries, spellValue, afterValue, spellValues, afterValues, spellTail, spellParameters, spellCommand}
+use Rattle.laws.specs.Laws.{carried, Back}
 
 -- what `Reads` says, taken apart
 abbrev Got : {A : Type 0} → Answer (Read A) → A → ℕ → Type 0
@@ -81,11 +82,6 @@ abbrev pub partOf : Value → Part
 partOf (number e v) = single e
 partOf (scaled m x) = real
 partOf (place p) = point
-
--- the entries that go with a tail
-abbrev pub listed : Tail → List ℤ → List ℤ
-listed none es = []
-listed (counted e) es = es
 
 pub still-inside : (kept : Remembered) (v : Value) → inside (kept .point) ≡ true → isValue v ≡ true → inside (afterValue kept v .point) ≡ true
 still-inside kept (number e v) i ok = i
@@ -129,9 +125,9 @@ module _ (s : List ℕ) where
   record TailBack (kept : Remembered) (t : Tail) (es : List ℤ) (at : ℕ) : Type 0 where
     held : Held
     reads : tailAt kept t s at ≡ done held
-    number-is : held .count ≡ length (listed t es)
+    number-is : held .count ≡ length (carried t es)
     next-is : held .next ≡ at + length (spellTail kept t es)
-    entries-are : entriesFrom (entryIn t) kept (held .count) s (held .start) ≡ listed t es
+    entries-are : entriesFrom (entryIn t) kept (held .count) s (held .start) ≡ carried t es
 
   tail-back : (kept : Remembered) (t : Tail) (es : List ℤ) (at : ℕ) → isTail t es ≡ true → Stands s at (spellTail kept t es) → TailBack kept t es at
   unfolding tailAt spellTail isTail runAt allAfter
@@ -228,18 +224,6 @@ letter-is : (s : List ℕ) (at b : ℕ) → at < length s → getD s at 0 ≡ b 
 unfolding letterAt
 letter-is s at b i e n = simp (lt-ltb at (length s) i, e, ne-eqb b 27 n)
 
--- the command c with its entries es was read from start on, in so much room
-pub record Back (kept : Remembered) (c : Command) (es : List ℤ) (s : List ℕ) (start room : ℕ) : Type 0 where
-  pub read : Meaning
-  pub whole : commandAt kept s start room ≡ done read
-  pub first-is : read .first ≡ c .first
-  pub second-is : read .second ≡ c .second
-  pub values-are : read .values ≡ valuesOf (c .parameters)
-  pub tail-is : read .tail ≡ tailOf (c .parameters)
-  pub entries-are : read .entries ≡ listed (tailOf (c .parameters)) es
-  pub next-is : read .next ≡ start + length (spellCommand kept c es)
-  pub kept-is : read .kept ≡ afterValues kept (valuesOf (c .parameters))
-
 module _ (kept : Remembered) (c : Command) (es : List ℤ) (ok : isCommand kept c es ≡ true) (s : List ℕ) (start : ℕ) (st : Stands s start (spellCommand kept c es)) where
   kind-ok : isKind (c .first) (c .second) (c .parameters) ≡ true
   unfolding isCommand fits
@@ -328,7 +312,7 @@ module _ (kept : Remembered) (c : Command) (es : List ℤ) (ok : isCommand kept 
   long = let a = length-append spelledValues spelledTail in omega arith
 
   -- in room enough for its entries the command reads back
-  pub command-back : (room : ℕ) → length (listed (tailOf (c .parameters)) es) ≤ room → Back kept c es s start room
+  pub command-back : (room : ℕ) → length (carried (tailOf (c .parameters)) es) ≤ room → Back kept c es s start room
   unfolding commandAt bodyAt parsed
   command-back room h =
       let t : leb (list-back .held .count) room ≡ true = le-leb (list-back .held .count) room (omega (arith, list-back .number-is)) in
@@ -346,6 +330,6 @@ module _ (kept : Remembered) (c : Command) (es : List ℤ) (ok : isCommand kept 
 
 -- every writable command with its entries, written from a remembered point and read again from that point, also behind and in front of
 -- other bytes
-pub command-round : (kept : Remembered) (c : Command) (es : List ℤ) (before after : List ℕ) (room : ℕ) → isCommand kept c es ≡ true → length (listed (tailOf (c .parameters)) es) ≤ room → Back kept c es (before ++ (spellCommand kept c es ++ after)) (length before) room
+pub command-round : (kept : Remembered) (c : Command) (es : List ℤ) (before after : List ℕ) (room : ℕ) → isCommand kept c es ≡ true → length (carried (tailOf (c .parameters)) es) ≤ room → Back kept c es (before ++ (spellCommand kept c es ++ after)) (length before) room
 command-round kept c es before after room ok h =
     command-back kept c es ok (before ++ (spellCommand kept c es ++ after)) (length before) (stands-between before (spellCommand kept c es) after) room h

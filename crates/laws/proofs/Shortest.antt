@@ -38,6 +38,7 @@ use Rattle.commands.specs.declared.Command.{Command}
 use Rattle.commands.specs.Reading.{letterAt, Letters, completed, secondAt, headAt, Meaning, meaning, bodyAt, commandAt}
 use Rattle.writable.specs.Writable.{kindFor, kindNumber, isKind, isEntry, areEntries, isValue, areValues, isTail, fits, isCommand}
 use Rattle.writing.specs.Writing.{spellEntry, spellEntries, spellValue, afterValue, spellValues, afterValues, spellTail, spellParameters, spellCommand}
+use Rattle.laws.specs.Laws.{SaysSo, NoShorter}
 use Rattle.laws.proofs.RoundTrip.{partOf, shape-is}
 
 -- ---- one entry
@@ -417,13 +418,6 @@ coded K.TwoCharacters = refl
 same-shape : (k j : Kind) → shapeOf k ≡ shapeOf j → k ≡ j
 same-shape k j e = sym (coded k) ∙ ap (λ (h : Shape). kindCoded (shapeCode h)) e ∙ coded j
 
--- a command that says what was read
-pub record SaysSo (c : Command) (m : Meaning) : Type 0 where
-  pub first-is : c .first ≡ m .first
-  pub second-is : c .second ≡ m .second
-  pub values-are : valuesOf (c .parameters) ≡ m .values
-  pub tail-is : tailOf (c .parameters) ≡ m .tail
-
 pub read-writable : (kept : Remembered) (s : List ℕ) (start room : ℕ) (c : Command) {m : Meaning} → inside (kept .point) ≡ true → commandAt kept s start room ≡ done m → SaysSo c m → isCommand kept c (m .entries) ≡ true
 unfolding isCommand fits isKind
 read-writable kept s start room c {m} i e q =
@@ -436,7 +430,7 @@ read-writable kept s start room c {m} i e q =
     rw (n, eq-eqb (kindNumber (kindFor ps)) (kindNumber (kindFor ps)) refl, i, q .values-are, q .tail-is, f .values-ok) (f .tail-ok)
 
 -- no byte string that reads as that command from that point is shorter
-pub command-shortest : (kept : Remembered) (s : List ℕ) (start room : ℕ) (c : Command) {m : Meaning} → commandAt kept s start room ≡ done m → SaysSo c m → start + length (spellCommand kept c (m .entries)) ≤ m .next
+pub command-shortest : (kept : Remembered) (s : List ℕ) (start room : ℕ) (c : Command) {m : Meaning} → commandAt kept s start room ≡ done m → SaysSo c m → NoShorter kept start c m
 unfolding spellCommand
 command-shortest kept s start room c {m} e q =
     let f = command-shown kept s start room e in

@@ -1,4 +1,3 @@
 pub mod Decimals
 pub mod Pouring
 pub mod Lines
-pub mod Examples

@@ -1,1 +1,13 @@
+pub mod Rows
 pub mod Sheet
+pub mod MacroRows
+pub mod LineRows
+pub mod Examples
+pub mod WrongBytes
+pub mod WrongNumbers
+pub mod WrongReports
+pub mod WrongCommands
+pub mod WrongItems
+pub mod WrongPixels
+pub mod WrongMacros
+pub mod Wrong

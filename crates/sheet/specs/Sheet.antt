@@ -12,33 +12,27 @@ use Rattle.points.specs.Writing.{spellPoint, spellBytes}
 use Rattle.beam.specs.Settings.{freshBeam, withBits, stepped}
 use Rattle.pixels.specs.Marks.{moved, colours}
 use Rattle.pixels.specs.Writes.{pixels, characterMarks, leftAfter, rasterMarks, runMarks}
+use Rattle.sheet.specs.Rows.{SheetRow, given-of, paper-of, at}
 
-pub record Row : Type 0 where
-  pub given : List ℕ
-  pub paper : List ℕ
-
-abbrev integer : ℤ → List ℕ → Row
+abbrev integer : ℤ → List ℕ → SheetRow
 integer v bytes = record { given = spell v; paper = bytes }
 
 -- the refusal's number where the bytes are read as an integer from a fresh remembered point
-abbrev refusal : List ℕ → ℕ → Row
+abbrev refusal : List ℕ → ℕ → SheetRow
 refusal bytes n = record { given = number (integerAt freshMemory bytes 0) ∷ []; paper = n ∷ [] }
 
-abbrev point : (last this : Point) → List ℕ → Row
+abbrev point : (last this : Point) → List ℕ → SheetRow
 point last this bytes = record { given = spellPoint last this; paper = bytes }
 
-abbrev at : ℕ → ℕ → Point
-at x y = record { x = x; y = y }
-
 -- the colours that raster characters name at three bits, n of them
-abbrev raster : (n : ℕ) (characters colours : List ℕ) → Row
+abbrev raster : (n : ℕ) (characters colours : List ℕ) → SheetRow
 raster n chs cs = record { given = colours (rasterMarks (withBits 3 (freshBeam 1 1)) n chs); paper = cs }
 
 -- the colours that a run code names at three bits
-abbrev runs : (code : ℕ) → List ℕ → Row
+abbrev runs : (code : ℕ) → List ℕ → SheetRow
 runs code cs = record { given = colours (runMarks 3 (code ∷ [])); paper = cs }
 
-abbrev pub sheet : List Row
+abbrev pub sheet : List SheetRow
 sheet =
     integer (pos 0) (48 ∷ [])
     ∷ integer (negsuc 0) (33 ∷ [])
@@ -54,12 +48,6 @@ sheet =
     ∷ raster 4 (42 ∷ 60 ∷ []) (1 ∷ 2 ∷ 3 ∷ 4 ∷ [])
     ∷ runs 21 (5 ∷ 5 ∷ [])
     ∷ []
-
-abbrev given-of : Row → List ℕ
-given-of r = r .given
-
-abbrev paper-of : Row → List ℕ
-paper-of r = r .paper
 
 -- the one claim
 pub all-as-set : map given-of sheet ≡ map paper-of sheet

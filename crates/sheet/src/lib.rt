@@ -1,1 +1,2 @@
-// The sheet of set values of document 01, proved as one table with one claim: specs/Sheet.antt.
+// Tables that are proved by computing: the sheet of set values of document 01 (specs/Sheet.antt), worked examples (specs/Examples.antt), and wrong
+// answers that no call gives (specs/Wrong.antt).

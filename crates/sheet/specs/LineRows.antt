@@ -1,42 +1,37 @@
--- The lines of document 01's example, and one of each other sort, as one table with one claim.
+-- The lines of document 01's example, and one of each other sort.
 use Prim.Native.Nat.{ℕ}
-use mathlib.Core.Path.{_≡_, refl}
 use mathlib.Core.Bool.{true, false}
-use mathlib.Core.List.{List, [], _∷_, map}
+use mathlib.Core.List.{List, [], _∷_}
 use lib.IntN.{ℤ, pos, negsuc}
 use Rattle.memory.specs.Memory.{freshMemory}
 use Rattle.refusals.specs.declared.Refusal.the-variants.{BytesEnd, UnknownCommand}
 use Rattle.parameters.specs.declared.Parameters.{Parameters}
 use Rattle.parameters.specs.declared.Parameters.the-variants as P
 use Rattle.stream.specs.declared.Item.{Item}
-use Rattle.stream.specs.declared.Item.the-variants.{Nothing, Text, Done, Refused, NotRead}
-use Rattle.lines.specs.Decimals.{digitsOf, decimal, field, fields}
-use Rattle.lines.specs.Lines.{listed, opening, textLine, letters, commandHead, parametersWords, commandLine, pair, refusedLine, lineOf, lastLine}
+use Rattle.stream.specs.declared.Item.the-variants as I
+use Rattle.lines.specs.Lines.{lineOf, lastLine}
+use Rattle.sheet.specs.Rows.{SheetRow}
 
-pub record Row : Type 0 where
-  pub given : List ℕ
-  pub paper : List ℕ
-
-abbrev item : Item → ℕ → List ℤ → List ℕ → Row
+abbrev item : Item → ℕ → List ℤ → List ℕ → SheetRow
 item i start list line = record { given = lineOf i start list; paper = line }
 
 abbrev command : (first second : ℕ) → Parameters → ℕ → Item
-command a b ps count = Done (record { first = a; second = b; parameters = ps }) count 0 freshMemory
+command a b ps count = I.Done (record { first = a; second = b; parameters = ps }) count 0 freshMemory
 
-abbrev pub examples : List Row
-examples =
+abbrev pub line-examples : List SheetRow
+line-examples =
     -- T 0 65
-    item (Text 65 1) 0 [] (84 ∷ 32 ∷ 48 ∷ 32 ∷ 54 ∷ 53 ∷ 10 ∷ [])
+    item (I.Text 65 1) 0 [] (84 ∷ 32 ∷ 48 ∷ 32 ∷ 54 ∷ 53 ∷ 10 ∷ [])
     -- C 1 LF 0 100
     ∷ item (command 76 70 (P.OnePoint (record { x = 0; y = 100 })) 0) 1 [] (67 ∷ 32 ∷ 49 ∷ 32 ∷ 76 ∷ 70 ∷ 32 ∷ 48 ∷ 32 ∷ 49 ∷ 48 ∷ 48 ∷ 10 ∷ [])
     -- R 6 2 8
-    ∷ item (Refused UnknownCommand 8 9 freshMemory) 6 [] (82 ∷ 32 ∷ 54 ∷ 32 ∷ 50 ∷ 32 ∷ 56 ∷ 10 ∷ [])
+    ∷ item (I.Refused UnknownCommand 8 9 freshMemory) 6 [] (82 ∷ 32 ∷ 54 ∷ 32 ∷ 50 ∷ 32 ∷ 56 ∷ 10 ∷ [])
     -- C 9 KA 0
     ∷ item (command 75 65 (P.Single (pos 0)) 0) 9 [] (67 ∷ 32 ∷ 57 ∷ 32 ∷ 75 ∷ 65 ∷ 32 ∷ 48 ∷ 10 ∷ [])
     -- E 13
-    ∷ record { given = lastLine false 13; paper = 69 ∷ 32 ∷ 49 ∷ 51 ∷ 10 ∷ [] }
+    ∷ record { given = lastLine false 13; paper = (69 ∷ 32 ∷ 49 ∷ 51 ∷ 10 ∷ []) }
     -- M 4096
-    ∷ record { given = lastLine true 4096; paper = 77 ∷ 32 ∷ 52 ∷ 48 ∷ 57 ∷ 54 ∷ 10 ∷ [] }
+    ∷ record { given = lastLine true 4096; paper = (77 ∷ 32 ∷ 52 ∷ 48 ∷ 57 ∷ 54 ∷ 10 ∷ []) }
     -- a string: C 0 LT 2 72 73, of a longer list
     ∷ item (command 76 84 P.Text 2) 0 (pos 72 ∷ pos 73 ∷ pos 7 ∷ []) (67 ∷ 32 ∷ 48 ∷ 32 ∷ 76 ∷ 84 ∷ 32 ∷ 50 ∷ 32 ∷ 55 ∷ 50 ∷ 32 ∷ 55 ∷ 51 ∷ 10 ∷ [])
     -- an integer and an array: C 0 KD 5 1 -32768
@@ -46,17 +41,6 @@ examples =
     -- an empty array: C 0 RL 0
     ∷ item (command 82 76 P.Array 0) 0 (pos 72 ∷ []) (67 ∷ 32 ∷ 48 ∷ 32 ∷ 82 ∷ 76 ∷ 32 ∷ 48 ∷ 10 ∷ [])
     -- no item, no line
-    ∷ item Nothing 13 [] []
-    ∷ item (NotRead BytesEnd 0) 13 [] []
+    ∷ item I.Nothing 13 [] []
+    ∷ item (I.NotRead BytesEnd 0) 13 [] []
     ∷ []
-
-abbrev given-of : Row → List ℕ
-given-of r = r .given
-
-abbrev paper-of : Row → List ℕ
-paper-of r = r .paper
-
--- the one claim
-pub all-as-set : map given-of examples ≡ map paper-of examples
-unfolding digitsOf decimal field fields listed opening textLine letters commandHead parametersWords commandLine pair refusedLine lineOf lastLine
-all-as-set = refl

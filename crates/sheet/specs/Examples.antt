@@ -1,0 +1,28 @@
+-- Worked examples, as one table with one claim: stores, expansions and lines.
+use mathlib.Core.Path.{_≡_, refl}
+use mathlib.Core.List.{List, _++_, map}
+use Rattle.refusals.specs.Answers.{every, endsAfter, allAfter}
+use Rattle.wire.specs.Taking.{byteAt, pairAt}
+use Rattle.numbers.specs.Integers.{integerFrom}
+use Rattle.numbers.specs.Counts.{countIn}
+use Rattle.table.specs.Table.{kindOf, begins}
+use Rattle.parameters.specs.Entries.{entryAt, runAt}
+use Rattle.parameters.specs.Looking.{partAt, fixedAt, tailAt, parametersAt}
+use Rattle.commands.specs.Reading.{letterAt, secondAt, headAt, bodyAt, commandAt}
+use Rattle.stream.specs.Items.{passedFrom, commandItem, itemAt, toldItem}
+use Rattle.lines.specs.Decimals.{digitsOf, decimal, field, fields}
+use Rattle.lines.specs.Lines.{listed, opening, textLine, letters, commandHead, parametersWords, commandLine, pair, refusedLine, lineOf, lastLine}
+use Rattle.macros.specs.Store.{threeBytes, encoded, isEntry, entriesFrom, wellFormed, keep, bodyOf, mayDefine, beforeRoom, defineRefusal, storeAfter, bodyInEither, lookRefusal, findRefusal, lookedUp, placed}
+use Rattle.pieces.specs.Pieces.{commandPiece, pieceOf, pieceAt}
+use Rattle.expansion.specs.Expansion.{walked, entering, callStretch, started, expandRefusal, expandTold, expandOut}
+use Rattle.sheet.specs.Rows.{SheetRow, given-of, paper-of}
+use Rattle.sheet.specs.MacroRows.{store-examples, expansion-examples}
+use Rattle.sheet.specs.LineRows.{line-examples}
+
+abbrev pub examples : List SheetRow
+examples = store-examples ++ expansion-examples ++ line-examples
+
+-- the one claim
+pub all-as-shown : map given-of examples ≡ map paper-of examples
+unfolding every endsAfter allAfter byteAt pairAt integerFrom countIn kindOf begins entryAt runAt partAt fixedAt tailAt parametersAt letterAt secondAt headAt bodyAt commandAt passedFrom commandItem itemAt toldItem digitsOf decimal field fields listed opening textLine letters commandHead parametersWords commandLine pair refusedLine lineOf lastLine threeBytes encoded isEntry entriesFrom wellFormed keep bodyOf mayDefine beforeRoom defineRefusal storeAfter bodyInEither lookRefusal findRefusal lookedUp placed commandPiece pieceOf pieceAt walked entering callStretch started expandRefusal expandTold expandOut
+all-as-shown = refl

@@ -1,0 +1,65 @@
+-- Wrong answers, as one table with one claim: no row's wrong answer is what the definition gives. Since each call's promise equates its answer, and
+-- all that is lent, with the definition, no program that keeps its promises gives one of them.
+use mathlib.Core.Path.{_≡_, refl}
+use mathlib.Core.Bool.{true}
+use mathlib.Core.List.{List, [], _∷_}
+use Rattle.refusals.specs.Answers.{every, number, valueOr, placeOf, endsAfter, allAfter}
+use Rattle.wire.specs.Taking.{byteAt, pairAt, isItself, threeAhead}
+use Rattle.wire.specs.Sending.{sent, isPlain, roomFor, writeAt, writeIf, afterWrite, poured}
+use Rattle.numbers.specs.Integers.{integerFrom, highsOf, spellOf}
+use Rattle.numbers.specs.Counts.{countIn}
+use Rattle.points.specs.Reading.{byKind, endsAt, lastAt, afterLoY, afterUpper, afterHiY, pointFrom, pointAt}
+use Rattle.points.specs.Writing.{spellBytes}
+use Rattle.coordinates.specs.Coordinates.{coordinateOf}
+use Rattle.reports.specs.Reading.{within, reportFrom, reportAt, stringAt, afterString}
+use Rattle.reports.specs.Writing.{spellString, isString}
+use Rattle.table.specs.Table.{begins, kindOf}
+use Rattle.parameters.specs.Entries.{entryAt, runAt, handed}
+use Rattle.parameters.specs.Looking.{partAt, fixedAt, tailAt, parametersAt, afterLook}
+use Rattle.commands.specs.Reading.{letterAt, secondAt, headAt, bodyAt, commandAt, told, afterEntries}
+use Rattle.writable.specs.Writable.{isKind, isTail, fits, isCommand}
+use Rattle.writing.specs.Writing.{spellEntry, spellEntries, spellValues, afterValues, spellTail, spellParameters, spellCommand}
+use Rattle.stream.specs.Items.{passedFrom, commandItem, itemAt, toldItem, afterItem}
+use Rattle.lines.specs.Decimals.{digitsOf, decimal, field, fields}
+use Rattle.lines.specs.Lines.{listed, opening, textLine, letters, commandHead, parametersWords, commandLine, pair, refusedLine, lineOf, lastLine}
+use Rattle.beam.specs.Validity.{isSize, isBits, onSurface, inViewport, isValid}
+use Rattle.beam.specs.Settings.{settled, makeFresh, bitsFrom, setBits, cornersOn, framed, setViewport, setBeam, stepped, makeStep}
+use Rattle.pixels.specs.Marks.{place, laid, moved, rowEnd}
+use Rattle.pixels.specs.Writes.{pixels, characterMarks, leftAfter, rasterMarks, runMarks, runTotal, isSurface, pixelCharacters, rasterNumbers, rasterCharacters, runNumbers, writeRefusal, rasterRefusal, runRefusal, written, surfaceAfter, drawRaster, rasterSurface, drawRuns, runsSurface}
+use Rattle.balance.specs.Balance.{after, returned, ran}
+use Rattle.macros.specs.Store.{threeBytes, encoded, isEntry, entriesFrom, wellFormed, keep, bodyOf, mayDefine, beforeRoom, defineRefusal, storeAfter, bodyInEither, lookRefusal, findRefusal, lookedUp, placed, hasBody, bodyByHeaders, lookedByHeaders}
+use Rattle.pieces.specs.Pieces.{commandPiece, pieceOf, pieceAt}
+use Rattle.expansion.specs.Expansion.{walked, entering, callStretch, started, expandRefusal, expandTold, expandOut}
+use Rattle.pixel_calls.specs.Fields.{beamIn, fieldsOf}
+use Rattle.stream_calls.specs.Slots.{keptIn, twoOf, itemKept, itemNumber, kindIn, itemFields, fourOf, itemValues}
+use Rattle.stream_calls.specs.Given.{ofKind, ofFound, commandGiven, keptAfter}
+use Rattle.macro_calls.specs.Slots.{placeFields, countFields}
+use Rattle.sheet.specs.Rows.{Wrong, differs, joined}
+use Rattle.sheet.specs.WrongBytes.{column-of-bytes}
+use Rattle.sheet.specs.WrongNumbers.{column-of-numbers}
+use Rattle.sheet.specs.WrongReports.{column-of-reports}
+use Rattle.sheet.specs.WrongCommands.{column-of-commands}
+use Rattle.sheet.specs.WrongItems.{column-of-items}
+use Rattle.sheet.specs.WrongPixels.{column-of-pixels}
+use Rattle.sheet.specs.WrongMacros.{column-of-macros}
+
+abbrev pub wrongs : List Wrong
+wrongs =
+    joined (column-of-bytes ∷ column-of-numbers ∷ column-of-reports ∷ column-of-commands ∷ column-of-items ∷ column-of-pixels ∷ column-of-macros ∷ [])
+
+-- the one claim
+pub none-as-wrong : every differs wrongs ≡ true
+unfolding every number valueOr placeOf endsAfter allAfter byteAt pairAt isItself threeAhead sent isPlain roomFor writeAt writeIf afterWrite poured
+    integerFrom highsOf spellOf countIn byKind endsAt lastAt afterLoY afterUpper afterHiY pointFrom pointAt spellBytes coordinateOf within
+    reportFrom reportAt stringAt afterString spellString isString begins kindOf entryAt runAt handed partAt fixedAt tailAt parametersAt
+    afterLook letterAt secondAt headAt bodyAt commandAt told afterEntries isKind isTail fits isCommand spellEntry spellEntries spellValues
+    afterValues spellTail spellParameters spellCommand passedFrom commandItem itemAt toldItem afterItem digitsOf decimal field fields listed
+    opening textLine letters commandHead parametersWords commandLine pair refusedLine lineOf lastLine isSize isBits onSurface inViewport
+    isValid settled makeFresh bitsFrom setBits cornersOn framed setViewport setBeam stepped makeStep place laid moved rowEnd pixels
+    characterMarks leftAfter rasterMarks runMarks runTotal isSurface pixelCharacters rasterNumbers rasterCharacters runNumbers writeRefusal
+    rasterRefusal runRefusal written surfaceAfter drawRaster rasterSurface drawRuns runsSurface after returned ran threeBytes encoded isEntry
+    entriesFrom wellFormed keep bodyOf mayDefine beforeRoom defineRefusal storeAfter bodyInEither lookRefusal findRefusal lookedUp placed
+    hasBody bodyByHeaders lookedByHeaders commandPiece pieceOf pieceAt walked entering callStretch started expandRefusal expandTold expandOut
+    beamIn fieldsOf keptIn twoOf itemKept itemNumber kindIn itemFields fourOf itemValues ofKind ofFound commandGiven keptAfter placeFields
+    countFields
+none-as-wrong = refl

@@ -1,0 +1,213 @@
+-- Wrong answers of `refusals`, `memory`, `wire`, `ranges` and `characters`. Each row: a call, its input, and what it must not answer.
+use Prim.Native.Nat.{ℕ, _+_}
+use mathlib.Core.List.{List, [], _∷_}
+use lib.ListN.{length}
+use lib.Seq.{sets}
+use lib.IntN.{ℤ, pos, negsuc}
+use Rattle.refusals.specs.declared.Refusal.{Refusal}
+use Rattle.refusals.specs.declared.Refusal.the-variants.{IntegerOutside, TooShort}
+use Rattle.refusals.specs.Refusals.{numberOf}
+use Rattle.refusals.specs.Answers.{every}
+use Rattle.memory.specs.declared.Point.{Point}
+use Rattle.memory.specs.Memory.{freshMemory, inside, remember}
+use Rattle.wire.specs.Taking.{byteAt, threeAhead}
+use Rattle.wire.specs.Sending.{sent, isPlain, roomFor, inRoom, writeAt, afterWrite}
+use Rattle.ranges.specs.Ranges.{within}
+use Rattle.characters.specs.Characters.{isCharacter, areCharacters, lowBytes}
+use Rattle.sheet.specs.Rows.{Wrong, but, joined, truth, at, readingOf, number-is, point-is, writingOf}
+
+-- ---- refusals
+
+abbrev pub wrong-number : List Wrong
+wrong-number =
+    -- "7: lent list or output too short", "8: value out of range": 7 and 8 are told apart
+    but (numberOf TooShort ∷ []) (8 ∷ [])
+    -- "4: .. integer out of range", "5: count negative or above 256"
+    ∷ but (numberOf IntegerOutside ∷ []) (5 ∷ [])
+    ∷ []
+
+-- ---- memory
+
+abbrev pub wrong-fresh : List Wrong
+wrong-fresh =
+    -- "A fresh remembered point is (0,0)": not the upper left, and not one to the right
+    but (point-is (freshMemory .point)) (0 ∷ 4095 ∷ [])
+    ∷ but (point-is (freshMemory .point)) (1 ∷ 0 ∷ [])
+    ∷ []
+
+abbrev pub wrong-is-inside : List Wrong
+wrong-is-inside =
+    -- "x and y 0..4095"
+    but (truth (inside (at 0 4095))) (0 ∷ [])
+    ∷ but (truth (inside (at 4096 0))) (1 ∷ [])
+    ∷ []
+
+abbrev pub wrong-with-point : List Wrong
+wrong-with-point =
+    -- a point is remembered, and whole
+    but (point-is (remember freshMemory (at 1 2) .point)) (1 ∷ 0 ∷ [])
+    ∷ but (point-is (remember freshMemory (at 1 2) .point)) (0 ∷ 0 ∷ [])
+    ∷ []
+
+-- ---- wire
+
+abbrev taking : List ℕ → List ℕ → Wrong
+taking s wrong = but (readingOf number-is (byteAt freshMemory s 0)) wrong
+
+abbrev pub wrong-take : List Wrong
+wrong-take =
+    -- "27 at the end of the bytes is 1", "place is the length": not that of the 27
+    taking (27 ∷ []) (1 ∷ 0 ∷ [])
+    -- "27 before another byte than 63 is 6 at the 27": not behind it
+    ∷ taking (27 ∷ 65 ∷ []) (6 ∷ 1 ∷ [])
+    -- "ESC followed by 63 reads as 127": both bytes are taken
+    ∷ taking (27 ∷ 63 ∷ []) (0 ∷ 127 ∷ 1 ∷ 1 ∷ [])
+    -- "For the pair 27 63 the place is that of the 63"
+    ∷ taking (27 ∷ 63 ∷ []) (0 ∷ 127 ∷ 0 ∷ 2 ∷ [])
+    -- "3: byte not allowed here": 128 is no character
+    ∷ taking (128 ∷ []) (0 ∷ 128 ∷ 0 ∷ 1 ∷ [])
+    ∷ []
+
+abbrev pub wrong-three-ahead : List Wrong
+wrong-three-ahead =
+    -- no byte above 127 is taken as it stands, and two bytes are not three
+    but (truth (threeAhead (64 ∷ 128 ∷ 48 ∷ []) 0)) (1 ∷ [])
+    ∷ but (truth (threeAhead (64 ∷ 48 ∷ []) 0)) (1 ∷ [])
+    ∷ []
+
+abbrev pub wrong-room-for : List Wrong
+wrong-room-for =
+    -- "7: .. output too short for the whole result": a room that just fits is not
+    but (writingOf (roomFor 2 2 0) []) (7 ∷ 0 ∷ [])
+    -- the next byte goes behind all that was written
+    ∷ but (writingOf (roomFor 1 2 0) []) (0 ∷ 0 ∷ [])
+    ∷ []
+
+abbrev pub wrong-in-room : List Wrong
+wrong-in-room =
+    -- no more than has room, counted from where the bytes go
+    but (inRoom 3 2 0 ∷ []) (3 ∷ [])
+    ∷ but (inRoom 2 2 1 ∷ []) (2 ∷ [])
+    ∷ []
+
+abbrev laying : List ℕ → List ℕ → ℕ → List ℕ → Wrong
+laying w out start wrong = but (writingOf (writeAt w (length out) start) (afterWrite (writeAt w (length out) start) w out start)) wrong
+
+abbrev pub wrong-lay : List Wrong
+wrong-lay =
+    -- "A refused call leaves .. output bytes as they were on entry": none is written and then refused
+    laying (1 ∷ []) (9 ∷ 9 ∷ []) 1 (7 ∷ 0 ∷ 9 ∷ 1 ∷ [])
+    -- "Beyond the result a lent list or output is unchanged": the bytes go where they were asked for
+    ∷ laying (1 ∷ []) (9 ∷ 9 ∷ []) 1 (0 ∷ 2 ∷ 1 ∷ 9 ∷ [])
+    -- each byte goes to its own place
+    ∷ laying (1 ∷ 2 ∷ []) (9 ∷ 9 ∷ 9 ∷ []) 1 (0 ∷ 3 ∷ 9 ∷ 1 ∷ 1 ∷ [])
+    ∷ []
+
+-- bytes poured from a place on: how many they are, and the output
+abbrev pouring : List ℕ → List ℕ → ℕ → List ℕ → Wrong
+pouring w out start wrong = but (length (sent freshMemory w) ∷ sets out start (sent freshMemory w)) wrong
+
+abbrev pub wrong-pour-behind : List Wrong
+wrong-pour-behind =
+    -- one byte behind the start: it is sent itself, and not over the first
+    pouring (5 ∷ []) (9 ∷ 9 ∷ []) (0 + 1) (1 ∷ 9 ∷ 0 ∷ [])
+    ∷ pouring (5 ∷ []) (9 ∷ 9 ∷ []) (0 + 1) (1 ∷ 5 ∷ 9 ∷ [])
+    ∷ []
+
+abbrev pub wrong-pour-one : List Wrong
+wrong-pour-one =
+    -- not to the front, and not one behind
+    pouring (5 ∷ []) (9 ∷ 9 ∷ 9 ∷ []) 1 (1 ∷ 5 ∷ 9 ∷ 9 ∷ [])
+    ∷ pouring (5 ∷ []) (9 ∷ 9 ∷ 9 ∷ []) 1 (1 ∷ 9 ∷ 9 ∷ 5 ∷ [])
+    ∷ []
+
+abbrev pub wrong-pour-two : List Wrong
+wrong-pour-two =
+    -- one behind the other, each as itself
+    pouring (5 ∷ 6 ∷ []) (9 ∷ 9 ∷ []) 0 (2 ∷ 6 ∷ 9 ∷ [])
+    ∷ pouring (5 ∷ 6 ∷ []) (9 ∷ 9 ∷ []) 0 (2 ∷ 6 ∷ 6 ∷ [])
+    ∷ []
+
+abbrev pub wrong-pour-three : List Wrong
+wrong-pour-three =
+    -- in their order, and all three
+    pouring (5 ∷ 6 ∷ 7 ∷ []) (9 ∷ 9 ∷ 9 ∷ []) 0 (3 ∷ 6 ∷ 5 ∷ 7 ∷ [])
+    ∷ pouring (5 ∷ 6 ∷ 7 ∷ []) (9 ∷ 9 ∷ 9 ∷ []) 0 (3 ∷ 5 ∷ 6 ∷ 6 ∷ [])
+    ∷ []
+
+abbrev pub wrong-is-plain : List Wrong
+wrong-is-plain =
+    -- "the writer writes 127": each byte is sent as itself
+    but (truth (isPlain freshMemory)) (0 ∷ [])
+    ∷ []
+
+-- ---- ranges
+
+abbrev pub wrong-is-within : List Wrong
+wrong-is-within =
+    -- "32..95" begins with 32 and ends with 95; "none negative"
+    but (truth (within 32 95 (pos 32))) (0 ∷ [])
+    ∷ but (truth (within 32 95 (pos 95))) (0 ∷ [])
+    ∷ but (truth (within 32 95 (negsuc 39))) (1 ∷ [])
+    ∷ []
+
+abbrev pub wrong-are-within : List Wrong
+wrong-are-within =
+    -- an entry that fails is not made good by those behind it; "No refusal is given but on its condition"
+    but (truth (every (within 32 95) (pos 31 ∷ pos 40 ∷ []))) (1 ∷ [])
+    ∷ but (truth (every (within 32 95) (pos 40 ∷ []))) (0 ∷ [])
+    ∷ []
+
+-- ---- characters
+
+abbrev pub wrong-is-character : List Wrong
+wrong-is-character =
+    -- "bytes 32..127"
+    but (truth (isCharacter (pos 128))) (1 ∷ [])
+    ∷ but (truth (isCharacter (pos 31))) (1 ∷ [])
+    ∷ []
+
+abbrev pub wrong-are-characters : List Wrong
+wrong-are-characters =
+    -- "bytes 32..127"; "127 is data wherever a parameter allows it"
+    but (truth (areCharacters (pos 31 ∷ pos 65 ∷ []))) (1 ∷ [])
+    ∷ but (truth (areCharacters (pos 127 ∷ []))) (0 ∷ [])
+    ∷ []
+
+abbrev laid-entries : List ℤ → List ℕ → List ℕ → Wrong
+laid-entries vs out wrong = but (sets out 1 (lowBytes vs)) wrong
+
+abbrev pub wrong-lay-characters : List Wrong
+wrong-lay-characters =
+    -- the bytes stand from where they were asked for, and are those of the entries: whole bytes, 127 among them
+    laid-entries (pos 65 ∷ []) (9 ∷ 9 ∷ []) (65 ∷ 9 ∷ [])
+    ∷ laid-entries (pos 65 ∷ []) (9 ∷ 9 ∷ []) (9 ∷ 0 ∷ [])
+    ∷ laid-entries (pos 65 ∷ []) (9 ∷ 9 ∷ []) (9 ∷ 1 ∷ [])
+    ∷ laid-entries (pos 127 ∷ []) (9 ∷ 9 ∷ []) (9 ∷ 0 ∷ [])
+    ∷ []
+
+-- ---- all of them
+
+abbrev pub column-of-bytes : List Wrong
+column-of-bytes =
+    joined
+    (wrong-number
+    ∷ wrong-fresh
+    ∷ wrong-is-inside
+    ∷ wrong-with-point
+    ∷ wrong-take
+    ∷ wrong-three-ahead
+    ∷ wrong-room-for
+    ∷ wrong-in-room
+    ∷ wrong-lay
+    ∷ wrong-pour-behind
+    ∷ wrong-pour-one
+    ∷ wrong-pour-two
+    ∷ wrong-pour-three
+    ∷ wrong-is-plain
+    ∷ wrong-is-within
+    ∷ wrong-are-within
+    ∷ wrong-is-character
+    ∷ wrong-are-characters
+    ∷ wrong-lay-characters
+    ∷ [])

@@ -1,0 +1,232 @@
+-- Wrong answers of `macros`, `pieces` and `expansion`, and of the exported macro calls. Each row: a call, its input, and what it must not answer.
+use Prim.Native.Nat.{ℕ}
+use mathlib.Core.List.{List, [], _∷_, _++_, map}
+use lib.ListN.{length, replicate}
+use lib.IntN.{ℤ, pos}
+use Rattle.memory.specs.Memory.{freshMemory}
+use Rattle.macros.specs.Store.{Entry, threeBytes, encoded, wellFormed, defineRefusal, storeAfter, lookedUp, findRefusal, Placed, placed, lookedByHeaders}
+use Rattle.pieces.specs.declared.Piece.{Piece}
+use Rattle.pieces.specs.declared.Piece.the-variants.{End, Copied, Called, Broken}
+use Rattle.pieces.specs.Pieces.{pieceAt}
+use Rattle.expansion.specs.Expansion.{Told, expandTold, expandOut}
+use Rattle.macro_calls.specs.Slots.{placeFields, countFields}
+use Rattle.sheet.specs.Rows.{Wrong, but, joined, truth, signs}
+use Rattle.sheet.specs.MacroRows.{macro, kx, kxNegative, chain, five, other}
+
+-- a store with a body of 256 bytes
+abbrev longest : List ℕ
+longest = (0 ∷ 11 ∷ 0 ∷ []) ++ replicate 256 1
+
+-- ---- macros
+
+abbrev pub wrong-is-well-formed : List Wrong
+wrong-is-well-formed =
+    -- "entries in rising macro number, each number once"
+    but (truth (wellFormed threeBytes (0 ∷ 10 ∷ 1 ∷ 33 ∷ 0 ∷ 8 ∷ 1 ∷ 33 ∷ []))) (1 ∷ [])
+    -- "15 bits of number": 4 and 5 are told apart
+    ∷ but (truth (wellFormed threeBytes (0 ∷ 8 ∷ 1 ∷ 33 ∷ 0 ∷ 10 ∷ 1 ∷ 33 ∷ []))) (0 ∷ [])
+    -- "The rest of the store is all zeros"
+    ∷ but (truth (wellFormed threeBytes (1 ∷ []))) (1 ∷ [])
+    -- "bytes 0..127": one that fails is not made good by those behind it
+    ∷ but (truth (wellFormed threeBytes (0 ∷ 10 ∷ 2 ∷ 200 ∷ 1 ∷ []))) (1 ∷ [])
+    -- "9 bits of body length 1..256": a body may have 256 bytes
+    ∷ but (truth (wellFormed threeBytes longest)) (0 ∷ [])
+    ∷ []
+
+-- the refusal, and the store
+abbrev defined : List ℕ → ℕ → List ℕ → List ℕ
+defined s n body = defineRefusal threeBytes s (pos n) (map pos body) ∷ storeAfter threeBytes s (pos n) (map pos body)
+
+abbrev pub wrong-define : List Wrong
+wrong-define =
+    -- "Order: 12, 8, 13"
+    but (defined (1 ∷ []) 32768 []) (8 ∷ 1 ∷ [])
+    -- "Numbers 0..32767 (house rule), contents 0..127 .., else 8"
+    ∷ but (defined (replicate 8 0) 5 (128 ∷ [])) (0 ∷ 0 ∷ 10 ∷ 1 ∷ 128 ∷ 0 ∷ 0 ∷ 0 ∷ 0 ∷ [])
+    -- "A new body replaces the old one, and all room so freed counts"
+    ∷ but (defined five 5 (1 ∷ 2 ∷ 3 ∷ 4 ∷ 5 ∷ [])) (13 ∷ five)
+    -- refused, the store is as it was
+    ∷ but (defined five 5 (1 ∷ 2 ∷ 3 ∷ 4 ∷ 5 ∷ 6 ∷ [])) (13 ∷ replicate 8 0)
+    -- entries behind it move whole
+    ∷ but (defined (0 ∷ 10 ∷ 1 ∷ 33 ∷ 0 ∷ 12 ∷ 3 ∷ 1 ∷ 2 ∷ 3 ∷ 0 ∷ []) 5 (33 ∷ 34 ∷ [])) (0 ∷ 0 ∷ 10 ∷ 2 ∷ 33 ∷ 34 ∷ 0 ∷ 0 ∷ 0 ∷ 0 ∷ 0 ∷ 0 ∷ [])
+    -- "The rest of the store is all zeros"
+    ∷ but (defined five 5 (1 ∷ [])) (0 ∷ 0 ∷ 10 ∷ 1 ∷ 1 ∷ 105 ∷ 0 ∷ 0 ∷ 0 ∷ [])
+    -- "The body follows" its header
+    ∷ but (defined (replicate 8 0) 5 (72 ∷ 105 ∷ [])) (0 ∷ 72 ∷ 105 ∷ 2 ∷ 0 ∷ 0 ∷ 0 ∷ 0 ∷ 0 ∷ [])
+    -- "deleting what isn't there is done and changes nothing"
+    ∷ but (defined five 4 []) (14 ∷ five)
+    -- "at most 256 of them, else 8": 256 may be defined
+    ∷ but (defineRefusal threeBytes (replicate 259 0) (pos 5) (replicate 256 (pos 1)) ∷ []) (8 ∷ [])
+    ∷ []
+
+abbrev pub wrong-look-up : List Wrong
+wrong-look-up =
+    -- "the body as part of the volatile store if it is there"
+    but (lookedUp threeBytes five other (pos 5)) (33 ∷ [])
+    -- "an absent macro gives an empty part": no later one
+    ∷ but (lookedUp threeBytes five [] (pos 4)) (72 ∷ 105 ∷ [])
+    -- "a malformed store .. gives an empty part": the saved one too
+    ∷ but (lookedUp threeBytes five (1 ∷ []) (pos 5)) (72 ∷ 105 ∷ [])
+    ∷ []
+
+-- the refusal, the store, where the body begins, its length
+abbrev located : (volatile saved : List ℕ) → ℕ → List ℕ → Wrong
+located v s n wrong =
+    let p : Placed = placed threeBytes v s (pos n) in
+    but (p .number ∷ p .store ∷ p .offset ∷ p .long ∷ []) wrong
+
+abbrev pub wrong-locate : List Wrong
+wrong-locate =
+    -- where the body begins, and not its entry
+    located five [] 5 (0 ∷ 1 ∷ 0 ∷ 2 ∷ [])
+    -- "otherwise as part of the saved store": it is looked at, and named
+    ∷ located [] five 5 (14 ∷ 0 ∷ 0 ∷ 0 ∷ [])
+    ∷ located [] five 5 (0 ∷ 1 ∷ 3 ∷ 2 ∷ [])
+    -- "part of the volatile store if it is there"
+    ∷ located five other 5 (0 ∷ 2 ∷ 3 ∷ 1 ∷ [])
+    -- "12, 8 or 14": an absent macro is 14
+    ∷ located five [] 6 (8 ∷ 0 ∷ 0 ∷ 0 ∷ [])
+    ∷ []
+
+abbrev finding : (volatile saved : List ℕ) → ℕ → List ℕ → Wrong
+finding v s n wrong = but (findRefusal threeBytes v s (pos n) ∷ []) wrong
+
+abbrev pub wrong-found : List Wrong
+wrong-found =
+    -- "a companion answer says 12, 8 or 14 in that order"
+    finding five (1 ∷ []) 32768 (8 ∷ [])
+    ∷ finding five [] 6 (8 ∷ [])
+    -- "otherwise as part of the saved store"; "No refusal is given but on its condition"
+    ∷ finding [] five 5 (14 ∷ [])
+    ∷ finding five [] 5 (14 ∷ [])
+    ∷ []
+
+abbrev pub wrong-look-by-headers : List Wrong
+wrong-look-by-headers =
+    -- no other macro's body: not the next one's, and of 15 bits of number none is lost
+    but (lookedByHeaders threeBytes five [] (pos 4)) (72 ∷ 105 ∷ [])
+    ∷ but (lookedByHeaders threeBytes five [] (pos 2)) (72 ∷ 105 ∷ [])
+    -- from header to header, as long as the numbers are lower
+    ∷ but (lookedByHeaders threeBytes ((0 ∷ 8 ∷ 1 ∷ 33 ∷ []) ++ five) [] (pos 5)) []
+    -- the volatile store first
+    ∷ but (lookedByHeaders threeBytes five other (pos 5)) (33 ∷ [])
+    -- "9 bits of body length": a body of 256 bytes is not empty
+    ∷ but (lookedByHeaders threeBytes longest [] (pos 5)) []
+    ∷ []
+
+-- ---- pieces
+
+-- 0 none is left; 1 copied: the next start, the remembered point; 2 called: the number, the next start, the remembered point; 3 broken
+abbrev pieceIs : Piece → List ℕ
+pieceIs End = (0 ∷ [])
+pieceIs (Copied n k) = (1 ∷ n ∷ k .point .x ∷ k .point .y ∷ [])
+pieceIs (Called v n k) = 2 ∷ (signs v ++ (n ∷ k .point .x ∷ k .point .y ∷ []))
+pieceIs Broken = (3 ∷ [])
+
+abbrev piece : List ℕ → ℕ → List ℕ → Wrong
+piece body start wrong = but (pieceIs (pieceAt freshMemory body start)) wrong
+
+abbrev pub wrong-piece-at : List Wrong
+wrong-piece-at =
+    -- "KD and KO are copied and not obeyed", and KA is no call
+    piece (27 ∷ 75 ∷ 68 ∷ 53 ∷ 48 ∷ []) 0 (2 ∷ 0 ∷ 5 ∷ 5 ∷ 0 ∷ 0 ∷ [])
+    ∷ piece (27 ∷ 75 ∷ 65 ∷ 53 ∷ []) 0 (2 ∷ 0 ∷ 5 ∷ 4 ∷ 0 ∷ 0 ∷ [])
+    -- "17: macro body holds a refused or cut command": it is no end, and no text
+    ∷ piece (27 ∷ []) 0 (0 ∷ [])
+    ∷ piece (27 ∷ []) 0 (1 ∷ 1 ∷ 0 ∷ 0 ∷ [])
+    -- what is not read is no end of the body
+    ∷ piece (65 ∷ []) 2 (0 ∷ [])
+    -- a text byte takes one byte
+    ∷ piece (65 ∷ []) 0 (1 ∷ 0 ∷ 0 ∷ 0 ∷ [])
+    -- "A count is an integer 0..256": an array of 256 is no trouble
+    ∷ piece ((27 ∷ 82 ∷ 68 ∷ 80 ∷ 48 ∷ []) ++ replicate 256 48) 0 (3 ∷ [])
+    ∷ []
+
+-- ---- expansion: the refusal, bytes written, macros entered, and the output
+
+abbrev expanded : (volatile saved : List Entry) → ℤ → List ℕ → List ℕ
+expanded v s n out =
+    let t : Told = expandTold (encoded threeBytes v) (encoded threeBytes s) n (length out) in
+    t .number ∷ t .written ∷ t .entered ∷ expandOut (encoded threeBytes v) (encoded threeBytes s) n out
+
+abbrev from-one : List ℕ → List ℕ → Wrong
+from-one body wrong = but (expanded (macro 1 body ∷ []) [] (pos 1) (9 ∷ 9 ∷ 9 ∷ [])) wrong
+
+-- 65, what macro 2 gives, 66
+abbrev around : List ℕ
+around = 65 ∷ (kx 2 ++ (66 ∷ []))
+
+abbrev pub wrong-expand : List Wrong
+wrong-expand =
+    -- "An absent nested macro gives nothing and isn't entered"
+    from-one around (0 ∷ 2 ∷ 2 ∷ 65 ∷ 66 ∷ 9 ∷ [])
+    -- "17: macro body holds a refused or cut command"
+    ∷ from-one (65 ∷ 27 ∷ []) (0 ∷ 1 ∷ 1 ∷ 65 ∷ 9 ∷ 9 ∷ [])
+    -- one "that invents its .. macro count"; "the starting macro .. counts as the first entered"
+    ∷ but (expanded (macro 1 around ∷ macro 2 (67 ∷ []) ∷ []) [] (pos 1) (9 ∷ 9 ∷ 9 ∷ [])) (0 ∷ 3 ∷ 1 ∷ 65 ∷ 67 ∷ 66 ∷ [])
+    -- "15: macro call inside a body at depth 8"; "a negative number is 8, then 15"
+    ∷ but (expanded (chain (kx 9)) [] (pos 1) (9 ∷ 9 ∷ 9 ∷ [])) (0 ∷ 0 ∷ 8 ∷ 9 ∷ 9 ∷ 9 ∷ [])
+    ∷ but (expanded (chain kxNegative) [] (pos 1) (9 ∷ 9 ∷ 9 ∷ [])) (15 ∷ 0 ∷ 0 ∷ 9 ∷ 9 ∷ 9 ∷ [])
+    -- "7: .. output too short for the whole result": one that just fits is not, and refused it is unchanged
+    ∷ from-one (65 ∷ 66 ∷ 67 ∷ []) (7 ∷ 0 ∷ 0 ∷ 9 ∷ 9 ∷ 9 ∷ [])
+    ∷ from-one (65 ∷ 65 ∷ 65 ∷ 65 ∷ []) (7 ∷ 0 ∷ 0 ∷ 65 ∷ 65 ∷ 65 ∷ [])
+    -- "Refusal 7 comes last, only when nothing else is wrong"
+    ∷ but (expanded (macro 1 (65 ∷ 27 ∷ []) ∷ []) [] (pos 1) []) (7 ∷ 0 ∷ 0 ∷ [])
+    -- "the start first gives 12 (volatile store first), 8, 14"
+    ∷ but (expanded [] (macro 1 [] ∷ []) (pos 32768) (9 ∷ 9 ∷ 9 ∷ [])) (8 ∷ 0 ∷ 0 ∷ 9 ∷ 9 ∷ 9 ∷ [])
+    -- one "that refuses all input", and one "that writes nothing"
+    ∷ from-one (65 ∷ []) (7 ∷ 0 ∷ 0 ∷ 9 ∷ 9 ∷ 9 ∷ [])
+    ∷ from-one (65 ∷ []) (0 ∷ 1 ∷ 1 ∷ 9 ∷ 9 ∷ 9 ∷ [])
+    ∷ []
+
+-- ---- the exported calls: the number, the slots, and what is lent
+
+abbrev pub wrong-ardh-define : List Wrong
+wrong-ardh-define =
+    -- the number that is handed in; "0 means done"
+    but (defined (replicate 8 0) 5 (72 ∷ 105 ∷ [])) (0 ∷ 0 ∷ 0 ∷ 2 ∷ 72 ∷ 105 ∷ 0 ∷ 0 ∷ 0 ∷ [])
+    ∷ but (defined (replicate 8 0) 5 (72 ∷ 105 ∷ [])) (13 ∷ five)
+    ∷ []
+
+abbrev place-slots : (volatile saved : List ℕ) → ℕ → List ℕ → Wrong
+place-slots v s n wrong =
+    let p : Placed = placed threeBytes v s (pos n) in
+    but (p .number ∷ placeFields p) wrong
+
+abbrev pub wrong-ardh-look-up : List Wrong
+wrong-ardh-look-up =
+    -- where its first byte is; "otherwise as part of the saved store"
+    place-slots five [] 5 (0 ∷ 1 ∷ 0 ∷ 2 ∷ [])
+    ∷ place-slots [] five 5 (0 ∷ 1 ∷ 3 ∷ 2 ∷ [])
+    ∷ []
+
+abbrev expand-slots : (volatile saved : List Entry) → List ℕ → Wrong
+expand-slots v s wrong =
+    let t : Told = expandTold (encoded threeBytes v) (encoded threeBytes s) (pos 1) 3 in
+    but (t .number ∷ (countFields t ++ expandOut (encoded threeBytes v) (encoded threeBytes s) (pos 1) (9 ∷ 9 ∷ 9 ∷ []))) wrong
+
+abbrev pub wrong-ardh-expand : List Wrong
+wrong-ardh-expand =
+    -- one "that invents its .. macro count"
+    expand-slots (macro 1 around ∷ macro 2 (67 ∷ []) ∷ []) [] (0 ∷ 3 ∷ 1 ∷ 65 ∷ 67 ∷ 66 ∷ [])
+    -- "volatile store first"
+    ∷ expand-slots (macro 1 (65 ∷ []) ∷ []) (macro 1 (68 ∷ []) ∷ []) (0 ∷ 1 ∷ 1 ∷ 68 ∷ 9 ∷ 9 ∷ [])
+    ∷ []
+
+-- ---- all of them
+
+abbrev pub column-of-macros : List Wrong
+column-of-macros =
+    joined
+    (wrong-is-well-formed
+    ∷ wrong-define
+    ∷ wrong-look-up
+    ∷ wrong-locate
+    ∷ wrong-found
+    ∷ wrong-look-by-headers
+    ∷ wrong-piece-at
+    ∷ wrong-expand
+    ∷ wrong-ardh-define
+    ∷ wrong-ardh-look-up
+    ∷ wrong-ardh-expand
+    ∷ [])
