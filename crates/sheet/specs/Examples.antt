@@ -12,7 +12,10 @@ use Rattle.commands.specs.Reading.{letterAt, secondAt, headAt, bodyAt, commandA
 use Rattle.stream.specs.Items.{passedFrom, commandItem, itemAt, toldItem}
 use Rattle.lines.specs.Decimals.{digitsOf, decimal, field, fields}
 use Rattle.lines.specs.Lines.{listed, opening, textLine, letters, commandHead, parametersWords, commandLine, pair, refusedLine, lineOf, lastLine}
-use Rattle.macros.specs.Store.{threeBytes, encoded, isEntry, entriesFrom, wellFormed, keep, bodyOf, mayDefine, beforeRoom, defineRefusal, storeAfter, bodyInEither, lookRefusal, findRefusal, lookedUp, placed}
+use Rattle.macros.specs.Store.{threeBytes, encoded, wellFormed, keep, bodyOf, bodyInEither, lookRefusal, findRefusal, lookedUp, placed}
+use Rattle.writable.specs.Writable.{isEntry}
+use Rattle.parameters.specs.Entries.{entriesFrom}
+use Rattle.defining.specs.Defining.{mayDefine, beforeRoom, defineRefusal, storeAfter}
 use Rattle.pieces.specs.Pieces.{commandPiece, pieceOf, pieceAt}
 use Rattle.expansion.specs.Expansion.{walked, entering, callStretch, started, expandRefusal, expandTold, expandOut}
 use Rattle.sheet.specs.Rows.{SheetRow, given-of, paper-of}

@@ -3,8 +3,10 @@ use Prim.Native.Nat.{ℕ, _+_}
 use mathlib.Core.List.{List, [], _∷_, _++_, map}
 use lib.ListN.{length, replicate}
 use lib.IntN.{ℤ, pos}
-use Rattle.macros.specs.Store.{Entry, threeBytes, encoded, defineRefusal, storeAfter, lookedUp, findRefusal, Placed, placed}
-use Rattle.expansion.specs.Expansion.{Told, expandTold, expandOut}
+use Rattle.macros.specs.Store.{Entry, threeBytes, encoded, lookedUp, findRefusal, Placed, placed}
+use Rattle.defining.specs.Defining.{defineRefusal, storeAfter}
+use Rattle.commands.specs.Reading.{Told}
+use Rattle.expansion.specs.Expansion.{expandTold, expandOut}
 use Rattle.sheet.specs.Rows.{SheetRow}
 
 -- ---- stores

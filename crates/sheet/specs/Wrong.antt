@@ -11,7 +11,7 @@ use Rattle.numbers.specs.Counts.{countIn}
 use Rattle.points.specs.Reading.{byKind, endsAt, lastAt, afterLoY, afterUpper, afterHiY, pointFrom, pointAt}
 use Rattle.points.specs.Writing.{spellBytes}
 use Rattle.coordinates.specs.Coordinates.{coordinateOf}
-use Rattle.reports.specs.Reading.{within, reportFrom, reportAt, stringAt, afterString}
+use Rattle.reports.specs.Reading.{byteWithin, reportFrom, reportAt, stringAt, afterString}
 use Rattle.reports.specs.Writing.{spellString, isString}
 use Rattle.table.specs.Table.{begins, kindOf}
 use Rattle.parameters.specs.Entries.{entryAt, runAt, handed}
@@ -25,9 +25,13 @@ use Rattle.lines.specs.Lines.{listed, opening, textLine, letters, commandHead, 
 use Rattle.beam.specs.Validity.{isSize, isBits, onSurface, inViewport, isValid}
 use Rattle.beam.specs.Settings.{settled, makeFresh, bitsFrom, setBits, cornersOn, framed, setViewport, setBeam, stepped, makeStep}
 use Rattle.pixels.specs.Marks.{place, laid, moved, rowEnd}
-use Rattle.pixels.specs.Writes.{pixels, characterMarks, leftAfter, rasterMarks, runMarks, runTotal, isSurface, pixelCharacters, rasterNumbers, rasterCharacters, runNumbers, writeRefusal, rasterRefusal, runRefusal, written, surfaceAfter, drawRaster, rasterSurface, drawRuns, runsSurface}
+use Rattle.pixels.specs.Writes.{pixels, characterMarks, leftAfter, rasterMarks, runMarks, runTotal, written, surfaceAfter, drawRaster, rasterSurface, drawRuns, runsSurface}
+use Rattle.pixel_refusals.specs.Tests.{isSurface, pixelCharacters, rasterNumbers, rasterCharacters, runNumbers, writeRefusal, rasterRefusal, runRefusal}
 use Rattle.balance.specs.Balance.{after, returned, ran}
-use Rattle.macros.specs.Store.{threeBytes, encoded, isEntry, entriesFrom, wellFormed, keep, bodyOf, mayDefine, beforeRoom, defineRefusal, storeAfter, bodyInEither, lookRefusal, findRefusal, lookedUp, placed, hasBody, bodyByHeaders, lookedByHeaders}
+use Rattle.macros.specs.Store.{threeBytes, encoded, wellFormed, keep, bodyOf, bodyInEither, lookRefusal, findRefusal, lookedUp, placed, hasBody, bodyByHeaders, lookedByHeaders}
+use Rattle.writable.specs.Writable.{isEntry}
+use Rattle.parameters.specs.Entries.{entriesFrom}
+use Rattle.defining.specs.Defining.{mayDefine, beforeRoom, defineRefusal, storeAfter}
 use Rattle.pieces.specs.Pieces.{commandPiece, pieceOf, pieceAt}
 use Rattle.expansion.specs.Expansion.{walked, entering, callStretch, started, expandRefusal, expandTold, expandOut}
 use Rattle.pixel_calls.specs.Fields.{beamIn, fieldsOf}
@@ -50,7 +54,7 @@ wrongs =
 -- the one claim
 pub none-as-wrong : every differs wrongs ≡ true
 unfolding every number valueOr placeOf endsAfter allAfter byteAt pairAt isItself threeAhead sent isPlain roomFor writeAt writeIf afterWrite poured
-    integerFrom highsOf spellOf countIn byKind endsAt lastAt afterLoY afterUpper afterHiY pointFrom pointAt spellBytes coordinateOf within
+    integerFrom highsOf spellOf countIn byKind endsAt lastAt afterLoY afterUpper afterHiY pointFrom pointAt spellBytes coordinateOf byteWithin
     reportFrom reportAt stringAt afterString spellString isString begins kindOf entryAt runAt handed partAt fixedAt tailAt parametersAt
     afterLook letterAt secondAt headAt bodyAt commandAt told afterEntries isKind isTail fits isCommand spellEntry spellEntries spellValues
     afterValues spellTail spellParameters spellCommand passedFrom commandItem itemAt toldItem afterItem digitsOf decimal field fields listed

@@ -4,11 +4,13 @@ use mathlib.Core.List.{List, [], _∷_, _++_, map}
 use lib.ListN.{length, replicate}
 use lib.IntN.{ℤ, pos}
 use Rattle.memory.specs.Memory.{freshMemory}
-use Rattle.macros.specs.Store.{Entry, threeBytes, encoded, wellFormed, defineRefusal, storeAfter, lookedUp, findRefusal, Placed, placed, lookedByHeaders}
+use Rattle.macros.specs.Store.{Entry, threeBytes, encoded, wellFormed, lookedUp, findRefusal, Placed, placed, lookedByHeaders}
+use Rattle.defining.specs.Defining.{defineRefusal, storeAfter}
 use Rattle.pieces.specs.declared.Piece.{Piece}
 use Rattle.pieces.specs.declared.Piece.the-variants.{End, Copied, Called, Broken}
 use Rattle.pieces.specs.Pieces.{pieceAt}
-use Rattle.expansion.specs.Expansion.{Told, expandTold, expandOut}
+use Rattle.commands.specs.Reading.{Told}
+use Rattle.expansion.specs.Expansion.{expandTold, expandOut}
 use Rattle.macro_calls.specs.Slots.{placeFields, countFields}
 use Rattle.sheet.specs.Rows.{Wrong, but, joined, truth, signs}
 use Rattle.sheet.specs.MacroRows.{macro, kx, kxNegative, chain, five, other}

@@ -17,7 +17,7 @@ use Rattle.ranges.specs.Ranges.{mostEntries}
 use Rattle.numbers.specs.Counts.{countIn, countAt, writeCount}
 use Rattle.points.specs.Reading.{pointAt}
 use Rattle.points.specs.Writing.{spellPoint, writePoint}
-use Rattle.coordinates.specs.Coordinates.{pointOf}
+use Rattle.coordinates.specs.Coordinates.{pointGiven}
 use Rattle.sheet.specs.Rows.{Wrong, but, joined, truth, signs, at, from, readingOf, number-is, point-is, writingOf}
 
 -- ---- numbers
@@ -200,9 +200,9 @@ wrong-pour-point =
 abbrev pub wrong-point-of : List Wrong
 wrong-point-of =
     -- "x and y 0..4095": what is outside stays outside, and x comes first
-    but (point-is (pointOf (pos 4095) (pos 0))) (4096 ∷ 0 ∷ [])
-    ∷ but (point-is (pointOf (pos 4096) (pos 0))) (4095 ∷ 0 ∷ [])
-    ∷ but (point-is (pointOf (pos 1) (pos 2))) (2 ∷ 2 ∷ [])
+    but (point-is (pointGiven (pos 4095) (pos 0))) (4096 ∷ 0 ∷ [])
+    ∷ but (point-is (pointGiven (pos 4096) (pos 0))) (4095 ∷ 0 ∷ [])
+    ∷ but (point-is (pointGiven (pos 1) (pos 2))) (2 ∷ 2 ∷ [])
     ∷ []
 
 -- ---- all of them

@@ -5,11 +5,12 @@ use mathlib.Core.List.{List, [], _∷_, _++_}
 use lib.ListN.{length}
 use lib.IntN.{ℤ, pos, negsuc}
 use Rattle.memory.specs.declared.Point.{Point}
-use Rattle.coordinates.specs.Coordinates.{pointOf}
+use Rattle.coordinates.specs.Coordinates.{pointGiven}
 use Rattle.beam.specs.declared.Beam.{Beam}
 use Rattle.beam.specs.Validity.{isSize, isValid}
 use Rattle.beam.specs.Settings.{Settled, makeFresh, setBits, setViewport, setBeam, stepped, makeStep}
-use Rattle.pixels.specs.Writes.{Told, drawRaster, rasterSurface, drawRuns, runsSurface}
+use Rattle.commands.specs.Reading.{Told}
+use Rattle.pixels.specs.Writes.{drawRaster, rasterSurface, drawRuns, runsSurface}
 use Rattle.balance.specs.Balance.{Call, raster, runs, bits, State, returned, ran}
 use Rattle.pixel_calls.specs.Fields.{beamIn, fieldsOf}
 use Rattle.sheet.specs.Rows.{Wrong, but, joined, truth, at}
@@ -244,7 +245,7 @@ wrong-ardh-set-bits =
     ∷ []
 
 abbrev viewport-slots : (x y x2 y2 : ℕ) → List ℕ → Wrong
-viewport-slots x y x2 y2 wrong = but (settledIs (setViewport 3 2 (beamIn wide) (pointOf (pos x) (pos y)) (pointOf (pos x2) (pos y2)))) wrong
+viewport-slots x y x2 y2 wrong = but (settledIs (setViewport 3 2 (beamIn wide) (pointGiven (pos x) (pos y)) (pointGiven (pos x2) (pos y2)))) wrong
 
 abbrev pub wrong-ardh-set-viewport : List Wrong
 wrong-ardh-set-viewport =
@@ -254,7 +255,7 @@ wrong-ardh-set-viewport =
     ∷ []
 
 abbrev beam-slots : (x y : ℕ) → List ℕ → Wrong
-beam-slots x y wrong = but (settledIs (setBeam 3 2 (beamIn wide) (pointOf (pos x) (pos y)))) wrong
+beam-slots x y wrong = but (settledIs (setBeam 3 2 (beamIn wide) (pointGiven (pos x) (pos y)))) wrong
 
 abbrev pub wrong-ardh-set-beam : List Wrong
 wrong-ardh-set-beam =

@@ -5,7 +5,8 @@ use lib.ListN.{length}
 use lib.IntN.{ℤ, pos}
 use Rattle.refusals.specs.Answers.{Answer, done, refused, Read, number, valueOr, placeOf}
 use Rattle.wire.specs.Sending.{afterWrite}
-use Rattle.reports.specs.Reading.{Held, reportAt, stringAt, afterString}
+use Rattle.parameters.specs.Entries.{Held}
+use Rattle.reports.specs.Reading.{reportAt, stringAt, afterString}
 use Rattle.reports.specs.Writing.{spellReport, writeReport, spellString, writeString}
 use Rattle.sheet.specs.Rows.{Wrong, but, joined, signs, signsOf, readingOf, writingOf}
 
