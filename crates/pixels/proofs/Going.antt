@@ -3,15 +3,13 @@ use Prim.Native.Nat.{ℕ, zero, suc, _+_, _-_, _*_, _/_, _%_, _^_, _≤_, _<_, m
 use mathlib.Core.Path.{_≡_, refl, sym, _∙_, ap}
 use mathlib.Core.List.{List, [], _∷_, _++_}
 use native.Mathlib.Nat.{not-suc-le-zero, mul-suc, mul-le-mul-left, min-le-right, mul-div-le, le-trans}
-use native.Mathlib.Numerals.{add-one}
 use native.Mathlib.Omega.{arith}
 use borrow.Author.Tests.{eq-eqb, ne-eqb}
-use lib.ListN.{length, getD, drop, drop-of-length-le}
-use lib.Seq.{drop-cons}
+use lib.ListN.{length}
 use Rattle.beam.specs.declared.Beam.{Beam}
 use Rattle.pixel_refusals.specs.Tests.{perCharacter, endOfRow}
 use Rattle.pixels.specs.Marks.{Mark, ink, laid, moved, rowEnd}
-use Rattle.pixels.specs.Writes.{pixels, characterMarks, leftAfter, rasterMarks, run, runMarks, runTotal}
+use Rattle.pixels.specs.Writes.{pixels, characterMarks, leftAfter, run}
 use Rattle.pixels.specs.Standing.{Ready, MarksLaid}
 use Rattle.pixels.proofs.Laying.{laid-append, laid-length, moved-append, moved-inside, moved-bits}
 use Rattle.pixels.proofs.Rows.{row-kept}
@@ -76,33 +74,6 @@ bits-less b (suc n) l = rw (one-less, mul-suc)
 -- a character has room for its pixels
 pub room : (b n : ℕ) → b * min n (perCharacter b) ≤ 6
 room b n = le-trans (mul-le-mul-left b (min-le-right n (6 / b))) (mul-div-le 6 b)
-
--- ---- lists, by the entry that is next
-
-pub raster-more : (beam : Beam) (n : ℕ) (l : List ℕ) (i : ℕ) → i < length l
-    → rasterMarks beam n (drop i l) ≡ characterMarks beam n (getD l i 0) ++ rasterMarks (moved (characterMarks beam n (getD l i 0)) beam) (leftAfter beam n (getD l i 0)) (drop (i + 1) l)
-unfolding rasterMarks
-raster-more beam n l i h = rw (drop-cons l i 0 h, add-one)
-
-pub raster-none : (beam : Beam) (n : ℕ) (l : List ℕ) (i : ℕ) → length l ≤ i → rasterMarks beam n (drop i l) ≡ []
-unfolding rasterMarks
-raster-none beam n l i h = rw (drop-of-length-le l h)
-
-pub runs-more : (b : ℕ) (l : List ℕ) (i : ℕ) → i < length l → runMarks b (drop i l) ≡ run (getD l i 0 % 2 ^ b) (getD l i 0 / 2 ^ b) ++ runMarks b (drop (i + 1) l)
-unfolding runMarks
-runs-more b l i h = rw (drop-cons l i 0 h, add-one)
-
-pub runs-none : (b : ℕ) (l : List ℕ) (i : ℕ) → length l ≤ i → runMarks b (drop i l) ≡ []
-unfolding runMarks
-runs-none b l i h = rw (drop-of-length-le l h)
-
-pub total-more : (b : ℕ) (l : List ℕ) (i : ℕ) → i < length l → runTotal b (drop i l) ≡ getD l i 0 / 2 ^ b + runTotal b (drop (i + 1) l)
-unfolding runTotal
-total-more b l i h = rw (drop-cons l i 0 h, add-one)
-
-pub total-none : (b : ℕ) (l : List ℕ) (i : ℕ) → length l ≤ i → runTotal b (drop i l) ≡ 0
-unfolding runTotal
-total-none b l i h = rw (drop-of-length-le l h)
 
 -- ---- one character
 

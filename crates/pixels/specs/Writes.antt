@@ -1,7 +1,7 @@
 -- The two pixel writes. "RP names N pixels, N not negative. Each character is 32 plus six bits, 32..95, and takes its pixels from the top bits
--- down, 6/bits to a character. There must be exactly as many characters as N needs; spare low bits are not looked at. RL holds codes, none
--- negative: length times 2^bits plus colour (house rule: length 0 places nothing)." And the end-of-row of K1: "Whole characters before it keep all
--- their pixels. Places passed over aren't counted in N. Characters other than 96 must still be just as many as N needs."
+-- down, 6/bits to a character .. spare low bits are not looked at. RL holds codes, none negative: length times 2^bits plus colour (house rule: length 0
+-- places nothing)." And the end-of-row of K1: "Whole characters before it keep all their pixels. Places passed over aren't counted in N." Which
+-- writes are refused: `pixel_refusals`.
 use Prim.Native.Nat.{ℕ, zero, suc, _+_, _-_, _/_, _%_, _^_, min}
 use mathlib.Core.List.{List, [], _∷_, _++_, map}
 use lib.ListN.{length, replicate}

@@ -1,15 +1,15 @@
-use Prim.Native.Nat.{_+_, _-_, _≤_, _<_}
-use mathlib.Core.Path.{_≡_}
+use Prim.Native.Nat.{_+_, _-_, _≤_}
+use mathlib.Core.Path.{_≡_, ap}
 use mathlib.Core.List.{map}
 use mathlib.Core.Logic.{⊎-elim}
 use native.Mathlib.Omega.{arith}
 use borrow.Author.Tests.{eq-eqb, ne-eqb}
 use lib.Dec.{eqb}
-use lib.ListN.{length, getD, drop, length-map}
+use lib.ListN.{length, drop}
 use lib.IntN.{natAbs}
 use Rattle.refusals.specs.Answers.{pick}
 use Rattle.pixel_refusals.specs.Tests.{endOfRow, pixelCharacters}
-use Rattle.pixel_refusals.proofs.Entries.{characters-more, characters-none}
+use Rattle.pixel_refusals.proofs.Entries.{next-entry, no-entry}
 use Rattle.pixel_refusals.proofs.pixel_characters.Statement.{statement}
 use Rattle.pixel_refusals.proofs.pixel_characters.Tie as tie
 
@@ -35,25 +35,21 @@ loop-less : tie.Need-loop-less Inv-loop μ-loop
 loop-less c = omega arith
 
 loop-again : tie.Need-loop-again Inv-loop μ-loop
+unfolding pixelCharacters
 loop-again c =
     let start = c .before .before .before .before in
     let i = c .before .before .before .loop .i in
     let l = map natAbs (start .args .list .now) in
     let k = c .before .entry .result in
-    let n : i < length l = omega (arith, length-map (start .args .list .now) natAbs) in
-    let v : k ≡ getD l i 0 = c .before .entry .ensures in
-    let e : pixelCharacters (drop i l) ≡ pick (eqb k endOfRow) 0 1 + pixelCharacters (drop (i + 1) l) = rw v (characters-more l i n) in
+    let e : pixelCharacters (drop i l) ≡ pick (eqb k endOfRow) 0 1 + pixelCharacters (drop (i + 1) l) = ap pixelCharacters (next-entry (start .args .list .now) i (c .before .before .loop-test .taken) (c .before .entry .ensures)) in
     ⊎-elim
     (λ t. let f : pixelCharacters (drop i l) ≡ 1 + pixelCharacters (drop (i + 1) l) = rw (ne-eqb k endOfRow (t .0 .taken)) at e in omega arith)
     (λ t. let f : pixelCharacters (drop i l) ≡ 0 + pixelCharacters (drop (i + 1) l) = rw (eq-eqb k endOfRow (t .0 .left)) at e in omega arith)
     (c .if1 .came)
 
 returns : tie.Need-returns Inv-loop μ-loop
-returns c =
-    let a = c .before .before .args in
-    let l = map natAbs (a .list .now) in
-    let n : length l ≤ c .before .loop .i = omega (arith, length-map (a .list .now) natAbs) in
-    omega (arith, characters-none l (c .before .loop .i) n)
+unfolding pixelCharacters
+returns c = omega (arith, ap pixelCharacters (no-entry (c .before .before .args .list .now) (c .before .loop .i) (c .loop-test .left)))
 
 pub pixel-characters-spec : {M : Type 1} → statement M
 pixel-characters-spec =

@@ -1,14 +1,14 @@
-use Prim.Native.Nat.{_+_, _-_, _≤_, _<_}
-use mathlib.Core.Path.{_≡_, refl}
+use Prim.Native.Nat.{_+_, _-_, _≤_}
+use mathlib.Core.Path.{_≡_, refl, ap}
 use mathlib.Core.List.{map, _++_}
 use native.Mathlib.Omega.{arith}
 use borrow.Author.Needs.{needs}
-use lib.ListN.{length, getD, drop, length-map}
+use lib.ListN.{length, drop}
 use lib.IntN.{natAbs}
 use Rattle.pixels.specs.Marks.{moved}
 use Rattle.pixels.specs.Writes.{characterMarks, leftAfter, rasterMarks}
-use Rattle.pixels.proofs.Going.{Going, going, going-on, going-done, raster-more, raster-none}
-use Rattle.pixel_refusals.proofs.Entries.{entry-within}
+use Rattle.pixels.proofs.Going.{Going, going, going-on, going-done}
+use Rattle.pixel_refusals.proofs.Entries.{entry-within, next-entry, no-entry}
 use Rattle.pixels.proofs.lay_raster.Statement.{statement}
 use Rattle.pixels.proofs.lay_raster.Tie as tie
 
@@ -43,6 +43,7 @@ loop-less : tie.Need-loop-less Inv-loop μ-loop
 loop-less c = omega arith
 
 loop-again : tie.Need-loop-again Inv-loop μ-loop
+unfolding rasterMarks
 loop-again c =
     let after-entry = c .before .before .before .before .before in
     let at-loop = after-entry .before .before in
@@ -52,24 +53,19 @@ loop-again c =
     let i = at-loop .loop .i in
     let l = map natAbs (a .list .now) in
     let k = after-entry .entry .result in
-    let il : i < length l = omega (arith, length-map (a .list .now) natAbs) in
-    let e : k ≡ getD l i 0 = after-entry .entry .ensures in
     let m = c .before .before .lay-character .ensures in
     let left : c .before .before .before .before .left-after .result ≡ leftAfter b n k = c .before .before .before .before .left-after .ensures in
     let xs = characterMarks b n k in
     let ys = rasterMarks (moved xs b) (leftAfter b n k) (drop (i + 1) l) in
-    let d : rasterMarks b n (drop i l) ≡ xs ++ ys = rw e (raster-more b n l i il) in
+    let d : rasterMarks b n (drop i l) ≡ xs ++ ys = ap (rasterMarks b n) (next-entry (a .list .now) i (after-entry .before .loop-test .taken) (after-entry .entry .ensures)) in
     (omega arith, rw (left, m .behind) (going-on (at-loop .loop .inv .1) xs ys d (record { behind = refl; surface = m .surface })))
 
 same-length : tie.Need-same-length Inv-loop μ-loop
 same-length c = c .before .loop .inv .1 .long
 
 returns : tie.Need-returns Inv-loop μ-loop
-returns c =
-    let a = c .before .before .before .args in
-    let l = map natAbs (a .list .now) in
-    let n : length l ≤ c .before .loop .i = omega (arith, length-map (a .list .now) natAbs) in
-    going-done (c .before .loop .inv .1) (raster-none (c .before .loop .next) (c .before .loop .left) l (c .before .loop .i) n)
+unfolding rasterMarks
+returns c = going-done (c .before .loop .inv .1) (ap (rasterMarks (c .before .loop .next) (c .before .loop .left)) (no-entry (c .before .before .before .args .list .now) (c .before .loop .i) (c .loop-test .left)))
 
 pub lay-raster-spec : {M : Type 1} → statement M
 lay-raster-spec =

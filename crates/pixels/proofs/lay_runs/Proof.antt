@@ -1,13 +1,14 @@
-use Prim.Native.Nat.{_+_, _-_, _*_, _/_, _%_, _^_, _≤_, _<_}
-use mathlib.Core.Path.{_≡_}
+use Prim.Native.Nat.{_+_, _-_, _*_, _/_, _%_, _^_, _≤_}
+use mathlib.Core.Path.{_≡_, ap}
 use mathlib.Core.List.{map, _++_}
 use native.Mathlib.Omega.{arith}
 use lib.Bits.{bitAnd}
 use lib.Pow.{pow-pos}
-use lib.ListN.{length, getD, drop, length-map}
+use lib.ListN.{length, drop}
 use lib.IntN.{natAbs}
 use Rattle.pixels.specs.Writes.{run, runMarks}
-use Rattle.pixels.proofs.Going.{Going, going, going-on, going-done, runs-more, runs-none}
+use Rattle.pixel_refusals.proofs.Entries.{next-entry, no-entry}
+use Rattle.pixels.proofs.Going.{Going, going, going-on, going-done}
 use Rattle.pixels.proofs.Bits.{mask-ok, masked, low-lt}
 use Rattle.pixels.proofs.lay_runs.Statement.{statement}
 use Rattle.pixels.proofs.lay_runs.Tie as tie
@@ -49,6 +50,7 @@ loop-less : tie.Need-loop-less Inv-loop μ-loop
 loop-less c = omega arith
 
 loop-again : tie.Need-loop-again Inv-loop μ-loop
+unfolding runMarks
 loop-again c =
     let after-entry = c .before .before .before .before in
     let at-loop = after-entry .before .before in
@@ -58,22 +60,17 @@ loop-again c =
     let i = at-loop .loop .i in
     let l = map natAbs (a .list .now) in
     let k = after-entry .entry .result in
-    let il : i < length l = omega (arith, length-map (a .list .now) natAbs) in
-    let e : k ≡ getD l i 0 = after-entry .entry .ensures in
     let m = c .before .before .lay-run .ensures in
     let xs = run (bitAnd k (1 * 2 ^ b % 2 ^ 64 - 1)) (k / 2 ^ b) in
-    let d : runMarks b (drop i l) ≡ xs ++ runMarks b (drop (i + 1) l) = rw (masked b k (start .pre .1), e) (runs-more b l i il) in
+    let d : runMarks b (drop i l) ≡ xs ++ runMarks b (drop (i + 1) l) = rw (masked b k (start .pre .1)) (ap (runMarks b) (next-entry (a .list .now) i (after-entry .before .loop-test .taken) (after-entry .entry .ensures))) in
     (omega arith, going-on (at-loop .loop .inv .1) xs (runMarks b (drop (i + 1) l)) d m)
 
 same-length : tie.Need-same-length Inv-loop μ-loop
 same-length c = c .before .loop .inv .1 .long
 
 returns : tie.Need-returns Inv-loop μ-loop
-returns c =
-    let a = c .before .before .before .args in
-    let l = map natAbs (a .list .now) in
-    let n : length l ≤ c .before .loop .i = omega (arith, length-map (a .list .now) natAbs) in
-    going-done (c .before .loop .inv .1) (runs-none (a .beam .bits) l (c .before .loop .i) n)
+unfolding runMarks
+returns c = going-done (c .before .loop .inv .1) (ap (runMarks (c .before .before .before .args .beam .bits)) (no-entry (c .before .before .before .args .list .now) (c .before .loop .i) (c .loop-test .left)))
 
 pub lay-runs-spec : {M : Type 1} → statement M
 lay-runs-spec =

@@ -1,13 +1,12 @@
-use Prim.Native.Nat.{_+_, _-_, _*_, _/_, _^_, _≤_, _<_}
-use mathlib.Core.Path.{_≡_}
+use Prim.Native.Nat.{_+_, _-_, _*_, _/_, _^_, _≤_}
+use mathlib.Core.Path.{_≡_, ap}
 use mathlib.Core.List.{map}
 use native.Mathlib.Nat.{div-le-self}
 use native.Mathlib.Omega.{arith}
-use lib.ListN.{length, getD, drop, length-map}
+use lib.ListN.{length, getD, drop}
 use lib.IntN.{natAbs}
 use Rattle.pixels.specs.Writes.{runTotal}
-use Rattle.pixels.proofs.Going.{total-more, total-none}
-use Rattle.pixel_refusals.proofs.Entries.{entry-within}
+use Rattle.pixel_refusals.proofs.Entries.{entry-within, next-entry, no-entry}
 use Rattle.pixel_refusals.proofs.Looking.{few-codes, codes-within}
 use Rattle.pixels.proofs.run_total.Statement.{statement}
 use Rattle.pixels.proofs.run_total.Tie as tie
@@ -40,6 +39,7 @@ loop-less : tie.Need-loop-less Inv-loop μ-loop
 loop-less c = omega arith
 
 loop-again : tie.Need-loop-again Inv-loop μ-loop
+unfolding runTotal
 loop-again c =
     let start = c .before .before .before in
     let a = start .args in
@@ -48,17 +48,14 @@ loop-again c =
     let k = c .entry .result in
     let more = c .before .loop-test .taken in
     let e : k ≡ getD l i 0 = c .entry .ensures in
-    let n : i < length l = omega (arith, length-map (a .list .now) natAbs) in
-    let t : runTotal (a .bits) (drop i l) ≡ k / 2 ^ a .bits + runTotal (a .bits) (drop (i + 1) l) = rw e (total-more (a .bits) l i n) in
+    let t : runTotal (a .bits) (drop i l) ≡ k / 2 ^ a .bits + runTotal (a .bits) (drop (i + 1) l) = ap (runTotal (a .bits)) (next-entry (a .list .now) i more e) in
     (omega arith, omega (arith, entry-within 0 32767 (a .list .now) i (codes-within (a .list .now) (start .pre .0)) more, div-le-self k (2 ^ a .bits)), omega arith)
 
 returns : tie.Need-returns Inv-loop μ-loop
+unfolding runTotal
 returns c =
     let a = c .before .before .args in
-    let i = c .before .loop .i in
-    let l = map natAbs (a .list .now) in
-    let n : length l ≤ i = omega (arith, length-map (a .list .now) natAbs) in
-    omega (arith, total-none (a .bits) l i n)
+    omega (arith, ap (runTotal (a .bits)) (no-entry (a .list .now) (c .before .loop .i) (c .loop-test .left)))
 
 pub run-total-spec : {M : Type 1} → statement M
 run-total-spec =
