@@ -27,7 +27,7 @@ use Rattle.expansion.specs.declared.Step.{Step}
 use Rattle.expansion.specs.declared.Step.the-variants as Step
 use Rattle.expansion.specs.declared.Expansion.the-variants as Expansion
 use Rattle.expansion.specs.Expansion.{Stretch, callStretch, started, ExpansionAnswer, stepOf, reachedBy, expansionOf, toldOf, outOf, roomRefusal, roomTold, roomOut, expandRefusal, expandTold, expandOut}
-use Rattle.expansion.specs.Running.{Formed, Ran}
+use Rattle.expansion.specs.Running.{BothFormed, Ran}
 use Rattle.expansion.proofs.Walking.{went-on, was-refused}
 
 -- ---- the run
@@ -118,7 +118,7 @@ module _ (volatile saved : List ℕ) (number : ℤ) (f : SFits w32 number) (r : 
     unfound-out out = refused-out e (started volatile saved number) out (unfound-is (length out))
 
   module _ (g : r ≡ Finding.Found) where
-    pub found-formed : Formed volatile saved
+    pub found-formed : BothFormed volatile saved
     unfolding findingOf findRefusal lookRefusal
     found-formed =
         let q : findRefusal threeBytes volatile saved number ≡ 0 = sym finding ∙ rw g in

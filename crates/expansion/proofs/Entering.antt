@@ -23,7 +23,7 @@ use Rattle.expansion.specs.declared.Going.{Going}
 use Rattle.expansion.specs.declared.Step.{Step}
 use Rattle.expansion.specs.declared.Step.the-variants as Step
 use Rattle.expansion.specs.Expansion.{Stretch, gives, stops, opened, entering, callStretch, bodyStretch}
-use Rattle.expansion.specs.Running.{Formed, Roomy, Ran}
+use Rattle.expansion.specs.Running.{BothFormed, Roomy, Ran}
 use Rattle.expansion.proofs.Walking.{ran-none, ran-stops}
 
 is-negative : (find : ℤ → List ℕ) (d : ℕ) (number : ℤ) (kept : Remembered) (n : ℕ) → isNegative number ≡ true → entering find d number kept n ≡ stops 8 n kept
@@ -42,7 +42,7 @@ is-opened find zero number kept n h z = absurd (z refl)
 is-opened find (suc d) number kept n h z = rw (h, sub-one)
 
 -- the stores are well formed, so the headers give the body that is looked up
-body-is : (volatile saved : List ℕ) (number : ℤ) → SFits w32 number → Formed volatile saved → {body : List ℕ} → body ≡ lookedByHeaders threeBytes volatile saved (toZ w32 (ofZ w32 number)) → body ≡ lookedUp threeBytes volatile saved number
+body-is : (volatile saved : List ℕ) (number : ℤ) → SFits w32 number → BothFormed volatile saved → {body : List ℕ} → body ≡ lookedByHeaders threeBytes volatile saved (toZ w32 (ofZ w32 number)) → body ≡ lookedUp threeBytes volatile saved number
 body-is volatile saved number f formed el = (rw (toZ-ofZ f) at el) ∙ headers-look threeBytes three-lawful volatile saved number (formed .first) (formed .second)
 
 -- the number comes back from the callees' contracts as the machine reads it
@@ -63,7 +63,7 @@ module _ (volatile saved : List ℕ) (d : ℕ) (number : ℤ) (from : Going) (ou
         subst (λ (x : Stretch). Ran x (from .at) out out (Step.Refused TooDeep)) (sym (is-deep (lookedUp threeBytes volatile saved) d number (from .kept) (from .entered) (sym test ∙ t) z))
         (ran-stops TooDeep (from .at) (from .entered) (from .kept) out)
 
-    module _ (formed : Formed volatile saved) (z : d ≡ 0 → ⊥) {body : List ℕ} (el : body ≡ lookedByHeaders threeBytes volatile saved (toZ w32 (ofZ w32 number))) where
+    module _ (formed : BothFormed volatile saved) (z : d ≡ 0 → ⊥) {body : List ℕ} (el : body ≡ lookedByHeaders threeBytes volatile saved (toZ w32 (ofZ w32 number))) where
       found : callStretch volatile saved d number (from .kept) (from .entered) ≡ opened (callStretch volatile saved (d - 1)) body (from .kept) (from .entered)
       unfolding callStretch
       found =
@@ -88,7 +88,7 @@ module _ (volatile saved : List ℕ) (d : ℕ) (number : ℤ) (from : Going) (ou
             subst (λ (x : Stretch). Ran x (from .at) out out′ r) (sym (found ∙ q)) ran
 
 -- a macro's own place among the 1,024 pays for its body
-pub enter-roomy : (volatile saved : List ℕ) (number : ℤ) (from : Going) → SFits w32 number → Formed volatile saved → {body : List ℕ} → body ≡ lookedByHeaders threeBytes volatile saved (toZ w32 (ofZ w32 number)) → from .entered < 1024 → Roomy from 0
+pub enter-roomy : (volatile saved : List ℕ) (number : ℤ) (from : Going) → SFits w32 number → BothFormed volatile saved → {body : List ℕ} → body ≡ lookedByHeaders threeBytes volatile saved (toZ w32 (ofZ w32 number)) → from .entered < 1024 → Roomy from 0
     → Roomy (record { at = from .at; entered = from .entered + 1; kept = from .kept }) (length body)
 enter-roomy volatile saved number from f formed el m r =
     let s : length (lookedUp threeBytes volatile saved number) ≤ 256 = looked-up-short volatile saved number in

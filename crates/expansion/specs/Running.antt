@@ -10,7 +10,7 @@ use Rattle.expansion.specs.declared.Step.{Step}
 use Rattle.expansion.specs.Expansion.{Stretch, stepOf, reachedBy}
 
 -- the start has found no 12
-pub record Formed (volatile saved : List ℕ) : Type 0 where
+pub record BothFormed (volatile saved : List ℕ) : Type 0 where
   pub first : wellFormed threeBytes volatile ≡ true
   pub second : wellFormed threeBytes saved ≡ true
 

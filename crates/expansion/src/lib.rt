@@ -3,7 +3,7 @@
 ghost use mathlib.Core.Path.{_≡_};
 ghost use lib.ListN.{length};
 ghost use Rattle.expansion.specs.Expansion.{stepOf, reachedBy, bodyStretch, callStretch, expansionOf, expandTold, expandOut, roomTold, roomOut, started};
-ghost use Rattle.expansion.specs.Running.{Formed, Roomy, Ran};
+ghost use Rattle.expansion.specs.Running.{BothFormed, Roomy, Ran};
 use macros::Finding;
 use memory::Remembered;
 use pieces::Piece;
@@ -47,7 +47,7 @@ fn walk<'a>(
     from: Going,
     out: &mut [u8],
 ) -> Step
-    requires { ⌜ Formed (now volatile) (now saved) ⌝ }
+    requires { ⌜ BothFormed (now volatile) (now saved) ⌝ }
     requires { ⌜ Roomy from (length (now body)) ⌝ }
     ensures { λ r. ⌜ Ran (bodyStretch (now (volatile .entry)) (now (saved .entry)) depth (now (body .entry)) (from .kept) (from .entered)) (from .at) (now (out .entry)) (now (out .exit)) r ⌝ }
 {
@@ -89,7 +89,7 @@ fn enter<'a>(
     from: Going,
     out: &mut [u8],
 ) -> Step
-    requires { ⌜ Formed (now volatile) (now saved) ⌝ }
+    requires { ⌜ BothFormed (now volatile) (now saved) ⌝ }
     requires { ⌜ Roomy from 0 ⌝ }
     ensures { λ r. ⌜ Ran (callStretch (now (volatile .entry)) (now (saved .entry)) depth number (from .kept) (from .entered)) (from .at) (now (out .entry)) (now (out .exit)) r ⌝ }
 {
@@ -120,7 +120,7 @@ fn enter<'a>(
 
 // The starting macro: it has depth 1 and is the first entered.
 fn run<'a>(volatile: &'a [u8], saved: &'a [u8], number: i32, out: &mut [u8]) -> Step
-    requires { ⌜ Formed (now volatile) (now saved) ⌝ }
+    requires { ⌜ BothFormed (now volatile) (now saved) ⌝ }
     ensures { λ r. ⌜ Ran (started (now (volatile .entry)) (now (saved .entry)) number) 0 (now (out .entry)) (now (out .exit)) r ⌝ }
 {
     let kept = memory::fresh();
@@ -134,7 +134,7 @@ fn run<'a>(volatile: &'a [u8], saved: &'a [u8], number: i32, out: &mut [u8]) -> 
 
 // A run that has no room to write in.
 fn look<'a>(volatile: &'a [u8], saved: &'a [u8], number: i32) -> Step
-    requires { ⌜ Formed (now volatile) (now saved) ⌝ }
+    requires { ⌜ BothFormed (now volatile) (now saved) ⌝ }
     ensures { λ r. ⌜ stepOf r ≡ reachedBy 0 (started (now (volatile .entry)) (now (saved .entry)) number) ⌝ }
 {
     let mut none = [0; 1];
@@ -143,7 +143,7 @@ fn look<'a>(volatile: &'a [u8], saved: &'a [u8], number: i32) -> Step
 
 // A macro that is there: the first trouble on the way, then 7.
 fn expand_found<'a>(volatile: &'a [u8], saved: &'a [u8], number: i32, out: &mut [u8]) -> Expansion
-    requires { ⌜ Formed (now volatile) (now saved) ⌝ }
+    requires { ⌜ BothFormed (now volatile) (now saved) ⌝ }
     ensures { λ r. ⌜ expansionOf r ≡ roomTold (started (now (volatile .entry)) (now (saved .entry)) number) (length (now (out .entry))) ⌝ }
     ensures { λ r. ⌜ now (out .exit) ≡ roomOut (started (now (volatile .entry)) (now (saved .entry)) number) (now (out .entry)) ⌝ }
 {

@@ -64,13 +64,13 @@ module _ (v s : List ℕ) (n : ℤ) (f : SFits w32 n) (p : Place) (e : bodyPlace
     saved-fields g = rw (sym stands, g)
 
   module _ {r : Refusal} (g : p ≡ Place.Refused r) where
-    pub nowhere-number : {x : ℕ} → x ≡ numberOf r → x ≡ placed threeBytes v s n .number
+    pub unplaced-number : {x : ℕ} → x ≡ numberOf r → x ≡ placed threeBytes v s n .number
     unfolding bodyPlaceOf
-    nowhere-number j = rw (sym stands, g) j
+    unplaced-number j = rw (sym stands, g) j
 
-    pub nowhere-fields : 0 ∷ 0 ∷ 0 ∷ [] ≡ placeFields (placed threeBytes v s n)
+    pub unplaced-fields : 0 ∷ 0 ∷ 0 ∷ [] ≡ placeFields (placed threeBytes v s n)
     unfolding bodyPlaceOf placeFields
-    nowhere-fields = rw (sym stands, g)
+    unplaced-fields = rw (sym stands, g)
 
 -- ---- expand
 

@@ -58,16 +58,34 @@ module _ (L : Layout) (lawful : Lawful L) (s : List ℕ) (k : ℕ) {g : Gap} (ga
           absurd (omega (arith, h, between, room-some L long refl (λ z. omega (arith, l, z))))
       go false e = e
 
+  module _ {size : ℕ} (es : size ≡ L .size) (h : g .at < g .old) where
+    some-there : leb 1 long ≡ true
+    some-there = le-leb 1 long (body-between h .0)
+
+    offset-there : g .at + size ≡ sizeOf L (below k (entries L s)) + L .size
+    offset-there = omega (arith, es, gap .at)
+
+    long-there : g .old - (g .at + size) ≡ long
+    long-there = omega (arith, es, body-between h .1)
+
+-- the header of an entry that is there
+module _ (L : Layout) (lawful : Lawful L) (s : List ℕ) (k : ℕ) (a : Survey) (ea : SurveyIs L s k a) {g : Gap} (eg : a ≡ Formed g) (h : g .at < g .old) {size : ℕ} (es : size ≡ L .size) where
+  pub header-there : g .at + size ≤ g .old
+  header-there = omega (arith, es, body-between L lawful s k (formed-of L s k ea eg .gap) h .1)
+
+  pub header-counts : Fits w64 (g .old) → g .at + size < 2 ^ 64
+  header-counts c = omega (arith, c .fits, header-there)
+
 -- ---- locating
 
 module _ (L : Layout) (v s : List ℕ) (n : ℤ) where
-  nowhere : (e : Refusal) → findRefusal L v s n ≡ numberOf e → bodyPlaceOf (Place.Refused e) ≡ placed L v s n
+  refused-place : (e : Refusal) → findRefusal L v s n ≡ numberOf e → bodyPlaceOf (Place.Refused e) ≡ placed L v s n
   unfolding bodyPlaceOf placed
-  nowhere e q = rw (q, not-nought e)
+  refused-place e q = rw (q, not-nought e)
 
   malformed-either : wellFormed L v && wellFormed L s ≡ false → bodyPlaceOf (Place.Refused StoreMalformed) ≡ placed L v s n
   unfolding findRefusal lookRefusal
-  malformed-either t = nowhere StoreMalformed (rw t)
+  malformed-either t = refused-place StoreMalformed (rw t)
 
   module _ {k : ℕ} (ek : k ≡ natAbs (toZ w32 (ofZ w32 n))) (a : Survey) (ea : SurveyIs L v k a) where
     pub first-malformed : a ≡ Malformed → bodyPlaceOf (Place.Refused StoreMalformed) ≡ placed L v s n
@@ -90,7 +108,7 @@ module _ (L : Layout) (v s : List ℕ) (n : ℤ) where
 
         pub outside : not w ≡ true → bodyPlaceOf (Place.Refused NotValid) ≡ placed L v s n
         unfolding findRefusal lookRefusal
-        outside t = nowhere NotValid (rw (one .formed, other .formed, inside-is (not-true w t)))
+        outside t = refused-place NotValid (rw (one .formed, other .formed, inside-is (not-true w t)))
 
         module _ (t : not w ≡ false) (lawful : Lawful L) where
           number-is : k ≡ natAbs n
@@ -102,49 +120,31 @@ module _ (L : Layout) (v s : List ℕ) (n : ℤ) where
 
           module _ {size : ℕ} (es : size ≡ L .size) where
             module _ (l : g .at < g .old) where
-              pub volatile-header : g .at + size ≤ g .old
-              volatile-header = omega (arith, es, body-between L lawful v k (one .gap) l .1)
-
-              pub volatile-counts : Fits w64 (g .old) → g .at + size < 2 ^ 64
-              volatile-counts c = omega (arith, c .fits, volatile-header)
-
               pub in-volatile : bodyPlaceOf (Place.InVolatile (record { offset = g .at + size; long = g .old - (g .at + size) })) ≡ placed L v s n
               unfolding bodyPlaceOf placed bodyInEither
               in-volatile =
-                  let y = body-between L lawful v k (one .gap) l in
-                  let u : leb 1 (length (bodyOf k (entries L v))) ≡ true = le-leb 1 _ (y .0) in
+                  let gap = one .gap in
+                  let u = some-there L lawful v k gap es l in
                   let z : findRefusal L v s n ≡ 0 = last ∙ rw (either-first (bodyOf k (entries L v)) (bodyOf k (entries L s)) u, u) in
-                  let o : g .at + size ≡ sizeOf L (below k (entries L v)) + L .size = omega (arith, es, one .gap .at) in
-                  let m : g .old - (g .at + size) ≡ length (bodyOf k (entries L v)) = omega (arith, es, y .1) in
-                  rw (z, ← number-is, u, m, o)
+                  rw (z, ← number-is, u, long-there L lawful v k gap es l, offset-there L lawful v k gap es l)
 
             module _ (l : g .old ≤ g .at) where
               none : leb 1 (length (bodyOf k (entries L v))) ≡ false
               none = none-between L lawful v k (one .gap) l
 
-              module _ (m : h .at < h .old) where
-                pub saved-header : h .at + size ≤ h .old
-                saved-header = omega (arith, es, body-between L lawful s k (other .gap) m .1)
-
-                pub saved-counts : Fits w64 (h .old) → h .at + size < 2 ^ 64
-                saved-counts c = omega (arith, c .fits, saved-header)
-
-                pub in-saved : bodyPlaceOf (Place.InSaved (record { offset = h .at + size; long = h .old - (h .at + size) })) ≡ placed L v s n
-                unfolding bodyPlaceOf placed bodyInEither
-                in-saved =
-                    let y = body-between L lawful s k (other .gap) m in
-                    let u : leb 1 (length (bodyOf k (entries L s))) ≡ true = le-leb 1 _ (y .0) in
-                    let z : findRefusal L v s n ≡ 0 = last ∙ rw (either-second (bodyOf k (entries L v)) (bodyOf k (entries L s)) none, u) in
-                    let o : h .at + size ≡ sizeOf L (below k (entries L s)) + L .size = omega (arith, es, other .gap .at) in
-                    let c : h .old - (h .at + size) ≡ length (bodyOf k (entries L s)) = omega (arith, es, y .1) in
-                    rw (z, ← number-is, none, c, o)
+              pub in-saved : h .at < h .old → bodyPlaceOf (Place.InSaved (record { offset = h .at + size; long = h .old - (h .at + size) })) ≡ placed L v s n
+              unfolding bodyPlaceOf placed bodyInEither
+              in-saved m =
+                  let gap = other .gap in
+                  let z : findRefusal L v s n ≡ 0 = last ∙ rw (either-second (bodyOf k (entries L v)) (bodyOf k (entries L s)) none, some-there L lawful s k gap es m) in
+                  rw (z, ← number-is, none, long-there L lawful s k gap es m, offset-there L lawful s k gap es m)
 
               pub in-neither : h .old ≤ h .at → bodyPlaceOf (Place.Refused NoSuchMacro) ≡ placed L v s n
               unfolding bodyInEither
               in-neither m =
-                  nowhere NoSuchMacro (last ∙ rw (either-second (bodyOf k (entries L v)) (bodyOf k (entries L s)) none, none-between L lawful s k (other .gap) m))
+                  refused-place NoSuchMacro (last ∙ rw (either-second (bodyOf k (entries L v)) (bodyOf k (entries L s)) none, none-between L lawful s k (other .gap) m))
 
-pub ruleset locatings = (three-size, three-lawful, first-malformed, second-malformed, outside, volatile-header, volatile-counts, in-volatile, saved-header, saved-counts, in-saved, in-neither)
+pub ruleset locatings = (three-size, three-lawful, first-malformed, second-malformed, outside, header-there, header-counts, in-volatile, in-saved, in-neither)
 
 -- ---- the part that is located, and whether there is one
 

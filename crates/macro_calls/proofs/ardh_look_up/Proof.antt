@@ -1,4 +1,4 @@
-use Rattle.macro_calls.proofs.Answers.{volatile-number, volatile-fields, saved-number, saved-fields, nowhere-number, nowhere-fields}
+use Rattle.macro_calls.proofs.Answers.{volatile-number, volatile-fields, saved-number, saved-fields, unplaced-number, unplaced-fields}
 use borrow.Author.Needs.{needs}
 use Rattle.macro_calls.proofs.ardh_look_up.Statement.{statement}
 use Rattle.macro_calls.proofs.ardh_look_up.Tie as tie
@@ -25,7 +25,7 @@ returns-2 : tie.Need-returns-2
 returns-2 c = (search (needs, saved-number), search (needs, saved-fields))
 
 returns-3 : tie.Need-returns-3
-returns-3 c = (search (needs, nowhere-number), search (needs, nowhere-fields))
+returns-3 c = (search (needs, unplaced-number), search (needs, unplaced-fields))
 
 pub ardh-look-up-spec : {M : Type 1} → statement M
 ardh-look-up-spec =
