@@ -1,16 +1,16 @@
 //! The kinds of cases: how each is made, and what must be seen of it.
 
-use super::case::{attempt, Case};
 use super::commands::{troubled_command, valid_command};
 use super::draws::Draws;
+use super::every;
 use super::expansions::expansion;
 use super::reports::{
     integer_report_read, integer_report_written, string_report_read, string_report_written,
 };
-use super::shrinking::smallest;
+use super::shrinking::compared;
 use super::stores::{definitions, look_up};
 use super::streams::{damaged_stream, random_stream, single_item, valid_stream};
-use super::surfaces::{beam_records, surfaces, MET};
+use super::surfaces::{beam_records, picture, surfaces, MET, WAYS};
 use super::tally::Row;
 
 /// A number, and those that it comes before where both have their reason.
@@ -26,22 +26,19 @@ pub struct Kind {
     pub orders: &'static [Order],
     /// What such a case can meet where it is done.
     pub met: &'static [&'static str],
-    pub run: Run,
+    pub making: Making,
 }
 
-/// Makes a case out of draws, runs it and notes its answers. The text of a difference has the smallest input found.
-type Run = fn(&mut Draws, &mut Row) -> Result<(), String>;
-
-fn compared<C: Case>(case: C, row: &mut Row) -> Result<(), String> {
-    row.cases += 1;
-    attempt(&case, row).map_err(|difference| {
-        let (case, difference) = smallest(case.clone(), difference);
-        format!("{case}\n{difference}")
-    })
+/// Makes a case, runs it and notes its answers. The text of a difference has the smallest input found.
+#[derive(Clone, Copy)]
+pub enum Making {
+    Drawn(fn(&mut Draws, &mut Row) -> Result<(), String>),
+    /// By the number of the case alone: the fixed part has them all, and there are no new ones.
+    Counted(fn(u64, &mut Row) -> Result<(), String>),
 }
 
 /// In the order of the table: how many cases of the fixed part, the numbers, the orders, and how a case is made and run.
-pub const KINDS: [Kind; 15] = [
+pub static KINDS: [Kind; 27] = [
     kind("valid-streams", 400_000, &[0], &[], |draws, row| {
         compared(valid_stream(draws), row)
     }),
@@ -153,6 +150,75 @@ pub const KINDS: [Kind; 15] = [
         &[(12, &[8])],
         |draws, row| compared(look_up(draws), row),
     ),
+    counted("pictures", 6, &[0], &[], |number, row| {
+        compared(picture(number), row)
+    })
+    .meeting(&WAYS),
+    counted(
+        "every-integer",
+        every::INTEGERS,
+        &[0, 3, 8],
+        &[],
+        every::integer,
+    ),
+    counted("every-count", every::COUNTS, &[0, 3, 8], &[], every::count),
+    counted(
+        "every-count-read",
+        every::COUNTS_READ,
+        &[0, 5],
+        &[],
+        every::count_read,
+    ),
+    counted(
+        "every-report",
+        every::REPORTS,
+        &[0, 3, 8],
+        &[],
+        every::report,
+    ),
+    counted(
+        "every-report-string",
+        every::REPORT_STRINGS,
+        &[0, 3, 8],
+        &[],
+        every::report_string,
+    ),
+    counted("every-coordinate", every::POINTS, &[0], &[], every::point),
+    counted(
+        "coordinates-outside",
+        every::POINTS_OUTSIDE,
+        &[0, 3, 8],
+        &[(8, &[3])],
+        every::point_outside,
+    ),
+    counted(
+        "integer-bytes",
+        every::SHORT_STRINGS,
+        &[0, 1, 3, 4, 6],
+        &[],
+        every::integer_bytes,
+    ),
+    counted(
+        "point-bytes",
+        every::SHORT_STRINGS,
+        &[0, 1, 3, 6],
+        &[],
+        every::point_bytes,
+    ),
+    counted(
+        "report-bytes",
+        every::SHORT_STRINGS,
+        &[0, 1, 3],
+        &[(3, &[1])],
+        every::report_bytes,
+    ),
+    counted(
+        "six-bytes",
+        every::SIX_BYTES,
+        &[0, 1, 3, 4, 5, 6],
+        &[(4, &[5])],
+        every::six_bytes,
+    ),
 ];
 
 const fn kind(
@@ -160,7 +226,7 @@ const fn kind(
     cases: u64,
     numbers: &'static [u8],
     orders: &'static [Order],
-    run: Run,
+    run: fn(&mut Draws, &mut Row) -> Result<(), String>,
 ) -> Kind {
     Kind {
         name,
@@ -168,13 +234,43 @@ const fn kind(
         numbers,
         orders,
         met: &[],
-        run,
+        making: Making::Drawn(run),
+    }
+}
+
+const fn counted(
+    name: &'static str,
+    cases: u64,
+    numbers: &'static [u8],
+    orders: &'static [Order],
+    run: fn(u64, &mut Row) -> Result<(), String>,
+) -> Kind {
+    Kind {
+        name,
+        cases,
+        numbers,
+        orders,
+        met: &[],
+        making: Making::Counted(run),
     }
 }
 
 impl Kind {
     const fn meeting(self, met: &'static [&'static str]) -> Kind {
         Kind { met, ..self }
+    }
+
+    pub fn is_drawn(&self) -> bool {
+        matches!(self.making, Making::Drawn(_))
+    }
+}
+
+/// Runs one case of a kind.
+pub fn run_case(kind: usize, seed: u64, case: u64, row: &mut Row) -> Result<(), String> {
+    row.cases += 1;
+    match KINDS[kind].making {
+        Making::Drawn(run) => run(&mut Draws::of_case(seed, kind, case), row),
+        Making::Counted(run) => run(case, row),
     }
 }
 
