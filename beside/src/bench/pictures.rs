@@ -10,7 +10,7 @@ const BITS: u32 = 3;
 const MOST_ENTRIES: usize = 256;
 const LONGEST_RUN: usize = 4095;
 
-/// The colours of docs/PICTURES.md, row by row from the top.
+/// The colours of docs/COMPARISON.md, row by row from the top.
 fn colours(w: usize, h: usize) -> Vec<u8> {
     let colour = |x: usize, y: usize| (x / 60 + y / 45 + (x * x + y * y) / 4096) % 8;
     let places = (0..h).flat_map(|y| (0..w).map(move |x| (x, y)));
