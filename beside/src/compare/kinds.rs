@@ -12,6 +12,7 @@ use super::stores::{definitions, look_up};
 use super::streams::{damaged_stream, random_stream, single_item, valid_stream};
 use super::surfaces::{beam_records, picture, surfaces, MET, WAYS};
 use super::tally::Row;
+use Making::{Counted, Drawn};
 
 /// A number, and those that it comes before where both have their reason.
 pub type Order = (u8, &'static [u8]);
@@ -39,22 +40,26 @@ pub enum Making {
 
 /// In the order of the table: how many cases of the fixed part, the numbers, the orders, and how a case is made and run.
 pub static KINDS: [Kind; 27] = [
-    kind("valid-streams", 400_000, &[0], &[], |draws, row| {
-        compared(valid_stream(draws), row)
-    }),
+    kind(
+        "valid-streams",
+        400_000,
+        &[0],
+        &[],
+        Drawn(|draws, row| compared(valid_stream(draws), row)),
+    ),
     kind(
         "damaged-streams",
         600_000,
         &[0, 1, 2, 3, 4, 5, 6],
         &[],
-        |draws, row| compared(damaged_stream(draws), row),
+        Drawn(|draws, row| compared(damaged_stream(draws), row)),
     ),
     kind(
         "random-streams",
         800_000,
         &[0, 1, 2, 3, 4, 5, 6],
         &[],
-        |draws, row| compared(random_stream(draws), row),
+        Drawn(|draws, row| compared(random_stream(draws), row)),
     ),
     kind(
         "single-items",
@@ -67,59 +72,63 @@ pub static KINDS: [Kind; 27] = [
             (4, &[5, 7]),
             (6, &[7]),
         ],
-        |draws, row| compared(single_item(draws), row),
+        Drawn(|draws, row| compared(single_item(draws), row)),
     ),
-    kind("valid-commands", 600_000, &[0], &[], |draws, row| {
-        compared(valid_command(draws), row)
-    }),
+    kind(
+        "valid-commands",
+        600_000,
+        &[0],
+        &[],
+        Drawn(|draws, row| compared(valid_command(draws), row)),
+    ),
     kind(
         "troubled-commands",
         1_200_000,
         &[0, 7, 8],
         &[(8, &[7])],
-        |draws, row| compared(troubled_command(draws), row),
+        Drawn(|draws, row| compared(troubled_command(draws), row)),
     ),
     kind(
         "integer-reports-read",
         800_000,
         &[0, 1, 3, 8],
         &[(3, &[1])],
-        |draws, row| compared(integer_report_read(draws), row),
+        Drawn(|draws, row| compared(integer_report_read(draws), row)),
     ),
     kind(
         "string-reports-read",
         800_000,
         &[0, 1, 3, 5, 7, 8],
         &[(3, &[1, 7]), (1, &[7]), (5, &[3])],
-        |draws, row| compared(string_report_read(draws), row),
+        Drawn(|draws, row| compared(string_report_read(draws), row)),
     ),
     kind(
         "integer-reports-written",
         800_000,
         &[0, 7, 8],
         &[(8, &[7])],
-        |draws, row| compared(integer_report_written(draws), row),
+        Drawn(|draws, row| compared(integer_report_written(draws), row)),
     ),
     kind(
         "string-reports-written",
         800_000,
         &[0, 7, 8],
         &[(8, &[7])],
-        |draws, row| compared(string_report_written(draws), row),
+        Drawn(|draws, row| compared(string_report_written(draws), row)),
     ),
     kind(
         "beam-records",
         800_000,
         &[0, 8, 11],
         &[(11, &[8])],
-        |draws, row| compared(beam_records(draws), row),
+        Drawn(|draws, row| compared(beam_records(draws), row)),
     ),
     kind(
         "surfaces",
         800_000,
         &[0, 8, 9, 10, 11],
         &[(11, &[8, 9, 10]), (8, &[9, 10]), (9, &[8, 10])],
-        |draws, row| compared(surfaces(draws), row),
+        Drawn(|draws, row| compared(surfaces(draws), row)),
     )
     .meeting(&MET),
     kind(
@@ -127,7 +136,7 @@ pub static KINDS: [Kind; 27] = [
         800_000,
         &[0, 8, 12, 13],
         &[(12, &[8, 13]), (8, &[13])],
-        |draws, row| compared(definitions(draws), row),
+        Drawn(|draws, row| compared(definitions(draws), row)),
     ),
     kind(
         "expansions",
@@ -141,83 +150,99 @@ pub static KINDS: [Kind; 27] = [
             (16, &[7]),
             (17, &[7, 16]),
         ],
-        |draws, row| compared(expansion(draws), row),
+        Drawn(|draws, row| compared(expansion(draws), row)),
     ),
     kind(
         "look-ups",
         1_000_000,
         &[0, 8, 12, 14],
         &[(12, &[8])],
-        |draws, row| compared(look_up(draws), row),
+        Drawn(|draws, row| compared(look_up(draws), row)),
     ),
-    counted("pictures", 6, &[0], &[], |number, row| {
-        compared(picture(number), row)
-    })
+    kind(
+        "pictures",
+        6,
+        &[0],
+        &[],
+        Counted(|number, row| compared(picture(number), row)),
+    )
     .meeting(&WAYS),
-    counted(
+    kind(
         "every-integer",
         every::INTEGERS,
         &[0, 3, 8],
         &[],
-        every::integer,
+        Counted(every::integer),
     ),
-    counted("every-count", every::COUNTS, &[0, 3, 8], &[], every::count),
-    counted(
+    kind(
+        "every-count",
+        every::COUNTS,
+        &[0, 3, 8],
+        &[],
+        Counted(every::count),
+    ),
+    kind(
         "every-count-read",
         every::COUNTS_READ,
         &[0, 5],
         &[],
-        every::count_read,
+        Counted(every::count_read),
     ),
-    counted(
+    kind(
         "every-report",
         every::REPORTS,
         &[0, 3, 8],
         &[],
-        every::report,
+        Counted(every::report),
     ),
-    counted(
+    kind(
         "every-report-string",
         every::REPORT_STRINGS,
         &[0, 3, 8],
         &[],
-        every::report_string,
+        Counted(every::report_string),
     ),
-    counted("every-coordinate", every::POINTS, &[0], &[], every::point),
-    counted(
+    kind(
+        "every-coordinate",
+        every::POINTS,
+        &[0],
+        &[],
+        Counted(every::point),
+    ),
+    kind(
         "coordinates-outside",
         every::POINTS_OUTSIDE,
         &[0, 3, 8],
         &[(8, &[3])],
-        every::point_outside,
+        Counted(every::point_outside),
     ),
-    counted(
+    kind(
         "integer-bytes",
         every::SHORT_STRINGS,
         &[0, 1, 3, 4, 6],
         &[],
-        every::integer_bytes,
+        Counted(every::integer_bytes),
     ),
-    counted(
+    kind(
         "point-bytes",
         every::SHORT_STRINGS,
         &[0, 1, 3, 6],
         &[],
-        every::point_bytes,
+        Counted(every::point_bytes),
     ),
-    counted(
+    kind(
         "report-bytes",
         every::SHORT_STRINGS,
         &[0, 1, 3],
         &[(3, &[1])],
-        every::report_bytes,
+        Counted(every::report_bytes),
     ),
-    counted(
+    kind(
         "six-bytes",
         every::SIX_BYTES,
         &[0, 1, 3, 4, 5, 6],
         &[(4, &[5])],
-        every::six_bytes,
+        Counted(every::six_bytes),
     ),
 ];
 
@@ -226,7 +251,7 @@ const fn kind(
     cases: u64,
     numbers: &'static [u8],
     orders: &'static [Order],
-    run: fn(&mut Draws, &mut Row) -> Result<(), String>,
+    making: Making,
 ) -> Kind {
     Kind {
         name,
@@ -234,24 +259,7 @@ const fn kind(
         numbers,
         orders,
         met: &[],
-        making: Making::Drawn(run),
-    }
-}
-
-const fn counted(
-    name: &'static str,
-    cases: u64,
-    numbers: &'static [u8],
-    orders: &'static [Order],
-    run: fn(u64, &mut Row) -> Result<(), String>,
-) -> Kind {
-    Kind {
-        name,
-        cases,
-        numbers,
-        orders,
-        met: &[],
-        making: Making::Counted(run),
+        making,
     }
 }
 
@@ -261,7 +269,7 @@ impl Kind {
     }
 
     pub fn is_drawn(&self) -> bool {
-        matches!(self.making, Making::Drawn(_))
+        matches!(self.making, Drawn(_))
     }
 }
 
@@ -269,8 +277,8 @@ impl Kind {
 pub fn run_case(kind: usize, seed: u64, case: u64, row: &mut Row) -> Result<(), String> {
     row.cases += 1;
     match KINDS[kind].making {
-        Making::Drawn(run) => run(&mut Draws::of_case(seed, kind, case), row),
-        Making::Counted(run) => run(case, row),
+        Drawn(run) => run(&mut Draws::of_case(seed, kind, case), row),
+        Counted(run) => run(case, row),
     }
 }
 

@@ -1,5 +1,8 @@
 //! The fixed part, new cases for some minutes, and one case alone.
 
+use std::sync::atomic::{AtomicUsize, Ordering::Relaxed};
+use std::sync::Mutex;
+use std::thread;
 use std::time::Duration;
 
 use super::kinds::{run_case, Kind, KINDS};
@@ -39,13 +42,8 @@ impl Run {
         }
     }
 
-    /// The next cases of a kind; the text of a difference.
     fn go_on(&mut self, kind: usize, cases: u64) -> Result<(), String> {
-        let first = self.rows[kind].cases;
-        for case in first..first + cases {
-            run_case(kind, self.seed, case, &mut self.rows[kind])
-                .map_err(|text| difference(self.seed, &KINDS[kind], case, &text))?;
-        }
+        run_cases(self.seed, kind, cases, &mut self.rows[kind])?;
         self.progress.cases_done(cases, KINDS[kind].name);
         Ok(())
     }
@@ -61,13 +59,19 @@ impl Run {
         }
     }
 
+    /// On all cores: a kind is the work of one.
     fn all_fixed_cases(&mut self) -> Result<(), String> {
-        for (kind, &Kind { cases, .. }) in KINDS.iter().enumerate() {
-            for done in (0..cases).step_by(AT_A_TIME as usize) {
-                self.go_on(kind, AT_A_TIME.min(cases - done))?;
-            }
-        }
-        Ok(())
+        let cores = thread::available_parallelism().map_or(1, usize::from);
+        let next = AtomicUsize::new(0);
+        let shared = Mutex::new(self);
+        thread::scope(|scope| {
+            let work = || scope.spawn(|| kind_after_kind(&next, &shared));
+            let workers: Vec<_> = (0..cores).map(|_| work()).collect();
+            let outcomes = workers.into_iter().map(|worker| worker.join());
+            outcomes
+                .map(|outcome| outcome.expect("what stops in the middle is a difference"))
+                .collect()
+        })
     }
 
     fn kinds_and_rows(&self) -> impl Iterator<Item = (&'static Kind, &Row)> {
@@ -109,6 +113,36 @@ impl Run {
         text += "no difference";
         let is_good = complaints.is_empty() || !self.is_fixed;
         Report { text, is_good }
+    }
+}
+
+/// The next cases of a kind; the text of a difference.
+fn run_cases(seed: u64, kind: usize, cases: u64, row: &mut Row) -> Result<(), String> {
+    let first = row.cases;
+    for case in first..first + cases {
+        run_case(kind, seed, case, row)
+            .map_err(|text| difference(seed, &KINDS[kind], case, &text))?;
+    }
+    Ok(())
+}
+
+/// Takes the next kind, and again, until there is none. Behind a difference no kind is begun.
+fn kind_after_kind(next: &AtomicUsize, shared: &Mutex<&mut Run>) -> Result<(), String> {
+    let run = || shared.lock().expect("nothing stops that holds it");
+    let seed = run().seed;
+    loop {
+        let number = next.fetch_add(1, Relaxed);
+        let Some(kind) = KINDS.get(number) else {
+            return Ok(());
+        };
+        let mut row = Row::default();
+        while row.cases < kind.cases {
+            let cases = AT_A_TIME.min(kind.cases - row.cases);
+            run_cases(seed, number, cases, &mut row)
+                .inspect_err(|_| next.store(KINDS.len(), Relaxed))?;
+            run().progress.cases_done(cases, kind.name);
+        }
+        run().rows[number] = row;
     }
 }
 

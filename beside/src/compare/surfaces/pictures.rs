@@ -8,6 +8,7 @@ use super::side::Side;
 use crate::compare::case::{same, Case, Difference};
 use crate::compare::fence::Fenced;
 use crate::compare::tally::Row;
+use crate::picture::colours;
 
 const W: usize = 480;
 const H: usize = 360;
@@ -52,7 +53,7 @@ struct View {
 pub fn picture(number: u64) -> Picture {
     let way = number as usize;
     let in_viewport = way == 5;
-    let colours = colours();
+    let colours = colours(W, H);
     Picture {
         name: WAYS[way],
         sequence: Sequence {
@@ -64,13 +65,6 @@ pub fn picture(number: u64) -> Picture {
         },
         expected: expected(&colours, &view(in_viewport)),
     }
-}
-
-/// Row by row from the top.
-fn colours() -> Vec<u8> {
-    let colour = |x: usize, y: usize| (x / 60 + y / 45 + (x * x + y * y) / 4096) % 8;
-    let places = (0..H).flat_map(|y| (0..W).map(move |x| (x, y)));
-    places.map(|(x, y)| colour(x, y) as u8).collect()
 }
 
 fn view(in_viewport: bool) -> View {
@@ -228,17 +222,6 @@ mod tests {
     use super::*;
 
     #[test]
-    fn the_picture_by_hand() {
-        let colours = colours();
-        assert_eq!(colours.len(), 172_800);
-        assert_eq!((colours[0], colours[60]), (0, 1));
-        // 7 columns of 60, no rows of 45, 229441 / 4096 = 56: 63.
-        assert_eq!(colours[479], 7);
-        // Row 359: 7 rows of 45, 128881 / 4096 = 31: 38.
-        assert_eq!(colours[359 * 480], 6);
-    }
-
-    #[test]
     fn spare_bits_are_ones() {
         assert_eq!(characters_of(&[1, 2, 3, 4], 3), [42, 60]);
         assert_eq!(characters_of(&[1, 2, 3], 3), [42, 32 + 24 + 7]);
@@ -256,9 +239,9 @@ mod tests {
 
     #[test]
     fn the_whole_surface_is_the_picture_and_a_viewport_a_part_of_it() {
-        let whole = expected(&colours(), &view(false));
-        assert_eq!(whole, Fenced::holding(&colours()));
-        let mut part = expected(&colours(), &view(true));
+        let whole = expected(&colours(W, H), &view(false));
+        assert_eq!(whole, Fenced::holding(&colours(W, H)));
+        let mut part = expected(&colours(W, H), &view(true));
         let touched = part.lent().iter().filter(|&&byte| byte < 8).count();
         assert_eq!(touched, 212 * 123);
     }
