@@ -40,7 +40,13 @@ pub fn parse(arguments: &[String]) -> Result<Options, String> {
     match (given.minutes, given.seed, given.kind, given.case) {
         (None, None, None, None) => Ok(Options::Fixed),
         (Some(minutes), seed, None, None) => Ok(Options::Minutes { minutes, seed }),
-        (None, Some(seed), Some(kind), Some(case)) => Ok(Options::One { seed, kind, case }),
+        (None, Some(seed), Some(kind), Some(case)) => match &KINDS[kind] {
+            counted if !counted.is_drawn() && case >= counted.cases => Err(format!(
+                "{} has {} cases, the first of which is 0",
+                counted.name, counted.cases
+            )),
+            _ => Ok(Options::One { seed, kind, case }),
+        },
         _ => Err("these arguments do not go together".to_string()),
     }
 }
@@ -127,6 +133,7 @@ mod tests {
             "--minutes 1 --kind stores",
             "--seed -1 --minutes 1",
             "--seed 7 --kind nonsense --case 1",
+            "--seed 7 --kind pictures --case 6",
             "10",
             "--hours 1",
         ] {
