@@ -3,4 +3,5 @@
 pub mod archive;
 pub mod bench;
 pub mod compare;
+mod picture;
 pub mod plain;

@@ -1,4 +1,4 @@
-//! The numbers that docs/STREAMS.md draws.
+//! Draws: numbers that look like chance, and are always the same.
 
 const FACTOR: u64 = 1103515245;
 const ADDED: u64 = 12345;

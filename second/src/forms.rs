@@ -25,7 +25,7 @@ const fn form(letters: &Letters, kinds: &'static [Kind]) -> Form {
     }
 }
 
-/// In the order of docs/STREAMS.md, which draws a command by its index.
+/// A command is drawn by its index here (`made.rs`).
 /// Where document 01 prints NX the summary table of document 000 has NL, and "the table wins".
 pub const FORMS: [Form; 21] = [
     form(b"KA", &[Kind::Integer]),

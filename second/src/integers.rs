@@ -88,10 +88,6 @@ pub fn count_from(value: i32) -> Option<u32> {
         .filter(|&count| count <= GREATEST_COUNT)
 }
 
-pub fn write_count(count: u32, bytes: &mut [u8], place: usize) -> Writing {
-    put(&spell_count(count)?, bytes, place)
-}
-
 pub fn spell_count(count: u32) -> Spelling {
     if count > GREATEST_COUNT {
         return Err(Refusal::OutOfRange);
@@ -174,8 +170,7 @@ mod tests {
         assert_eq!(write_integer(32768, &mut [], 0), Err(Refusal::OutOfRange));
         assert_eq!(write_integer(-32769, &mut [], 0), Err(Refusal::OutOfRange));
         assert_eq!(write_integer(0, &mut [], 0), Err(Refusal::TooShort));
-        assert_eq!(write_count(257, &mut [], 0), Err(Refusal::OutOfRange));
-        assert_eq!(write_count(256, &mut [], 0), Err(Refusal::TooShort));
+        assert_eq!(spell_count(257), Err(Refusal::OutOfRange));
     }
 
     #[test]

@@ -7,7 +7,7 @@ use crate::answers::ReadingRefused;
 use crate::commands::{Command, Value};
 use crate::items::{items_of, Item};
 
-const MOST_BYTES: usize = 4096;
+pub const MOST_BYTES: usize = 4096;
 
 pub fn run() -> Result<(), Box<dyn Error>> {
     let mut input = Vec::new();

@@ -1,4 +1,4 @@
-//! A made stream of docs/STREAMS.md: eight times some text and a command.
+//! A made stream: eight times some text and a command.
 
 use crate::commands::{spell_command, Command, Value};
 use crate::draws::Draws;

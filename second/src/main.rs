@@ -1,17 +1,16 @@
 //! The second program's commands.
 
-use second::{lister, macros, pictures, streams, vectors};
+use second::{captures, lister, parts, vectors};
 use std::env;
 use std::error::Error;
 use std::process::ExitCode;
 
 const COMMANDS: &str = "\
 commands:
-  second vectors < table    run all blocks of docs/VECTORS.md and print their lines
+  second vectors < table    print the lines of docs/VECTORS.md
   second list < bytes       print a line for each item of up to 4,096 bytes
-  second streams            make and list all streams of docs/STREAMS.md and print a line for each block
-  second pictures           draw the picture and run the small cases of docs/PICTURES.md and print their lines
-  second macros             run the stores and the expansions of docs/MACROS.md and print their lines";
+  second listings LISTER    give made captures to the program LISTER, and compare its listings with those of `list`
+  second parts              print what is looked up in two stores, as the program `parts` does";
 
 const FAILED: u8 = 1;
 const NOT_A_COMMAND: u8 = 2;
@@ -25,9 +24,8 @@ fn main() -> ExitCode {
     match arguments.as_slice() {
         ["vectors"] => status_of(vectors::run()),
         ["list"] => status_of(lister::run()),
-        ["streams"] => status_of(streams::run()),
-        ["pictures"] => status_of(pictures::run()),
-        ["macros"] => status_of(macros::run()),
+        ["listings", lister] => status_of(captures::run(lister)),
+        ["parts"] => status_of(parts::run()),
         _ => {
             eprintln!("{COMMANDS}");
             ExitCode::from(NOT_A_COMMAND)

@@ -1,7 +1,5 @@
 //! The record of the pixel commands: bits, viewport and beam. RU, RS, RH, the step and a fresh record.
 
-use std::fmt;
-
 use crate::answers::Refusal;
 use crate::points::Point;
 
@@ -170,13 +168,6 @@ impl Record {
         } else {
             self.y - 1
         };
-    }
-}
-
-impl fmt::Display for Record {
-    fn fmt(&self, line: &mut fmt::Formatter) -> fmt::Result {
-        let fields = self.fields().map(|field| field.to_string());
-        write!(line, "{}", fields.join(" "))
     }
 }
 

@@ -57,7 +57,7 @@ fn read(answer: Reading<i32>) -> String {
     }
 }
 
-fn in_decimal(bytes: &[u8]) -> String {
+pub fn in_decimal(bytes: &[u8]) -> String {
     let numbers: Vec<String> = bytes.iter().map(u8::to_string).collect();
     numbers.join(" ")
 }

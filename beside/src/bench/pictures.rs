@@ -1,5 +1,7 @@
 //! What the pixel writes draw: a picture by rasters, the same by runs, and a filled surface.
 
+use crate::picture::colours;
+
 /// A write: N, which runs do not have, and its characters or codes.
 pub struct Write {
     pub n: Option<i32>,
@@ -9,13 +11,6 @@ pub struct Write {
 const BITS: u32 = 3;
 const MOST_ENTRIES: usize = 256;
 const LONGEST_RUN: usize = 4095;
-
-/// The colours of docs/PICTURES.md, row by row from the top.
-fn colours(w: usize, h: usize) -> Vec<u8> {
-    let colour = |x: usize, y: usize| (x / 60 + y / 45 + (x * x + y * y) / 4096) % 8;
-    let places = (0..h).flat_map(|y| (0..w).map(move |x| (x, y)));
-    places.map(|(x, y)| colour(x, y) as u8).collect()
-}
 
 /// The picture by RP, three bits, 256 characters to a write.
 pub fn raster_writes(w: usize, h: usize) -> Vec<Write> {

@@ -10,7 +10,7 @@ const DAMAGED: usize = 8;
 const DAMAGES: usize = 2;
 const ENTRIES: usize = 256;
 
-/// All commands and text, made as in docs/STREAMS.md, with a line of text between and one piece in eight damaged.
+/// All commands and text, as the second program makes them, with a line of text between and one piece in eight damaged.
 pub fn mixed_stream(length: usize) -> Vec<u8> {
     let mut draws = Draws::starting_with(1);
     let mut stream = Vec::new();

@@ -1,17 +1,18 @@
 //! The kinds of cases: how each is made, and what must be seen of it.
 
-use super::case::{attempt, Case};
 use super::commands::{troubled_command, valid_command};
 use super::draws::Draws;
+use super::every;
 use super::expansions::expansion;
 use super::reports::{
     integer_report_read, integer_report_written, string_report_read, string_report_written,
 };
-use super::shrinking::smallest;
+use super::shrinking::compared;
 use super::stores::{definitions, look_up};
 use super::streams::{damaged_stream, random_stream, single_item, valid_stream};
-use super::surfaces::{beam_records, surfaces, MET};
+use super::surfaces::{beam_records, picture, surfaces, MET, WAYS};
 use super::tally::Row;
+use Making::{Counted, Drawn};
 
 /// A number, and those that it comes before where both have their reason.
 pub type Order = (u8, &'static [u8]);
@@ -26,38 +27,39 @@ pub struct Kind {
     pub orders: &'static [Order],
     /// What such a case can meet where it is done.
     pub met: &'static [&'static str],
-    pub run: Run,
+    pub making: Making,
 }
 
-/// Makes a case out of draws, runs it and notes its answers. The text of a difference has the smallest input found.
-type Run = fn(&mut Draws, &mut Row) -> Result<(), String>;
-
-fn compared<C: Case>(case: C, row: &mut Row) -> Result<(), String> {
-    row.cases += 1;
-    attempt(&case, row).map_err(|difference| {
-        let (case, difference) = smallest(case.clone(), difference);
-        format!("{case}\n{difference}")
-    })
+/// Makes a case, runs it and notes its answers. The text of a difference has the smallest input found.
+#[derive(Clone, Copy)]
+pub enum Making {
+    Drawn(fn(&mut Draws, &mut Row) -> Result<(), String>),
+    /// By the number of the case alone: the fixed part has them all, and there are no new ones.
+    Counted(fn(u64, &mut Row) -> Result<(), String>),
 }
 
 /// In the order of the table: how many cases of the fixed part, the numbers, the orders, and how a case is made and run.
-pub const KINDS: [Kind; 15] = [
-    kind("valid-streams", 400_000, &[0], &[], |draws, row| {
-        compared(valid_stream(draws), row)
-    }),
+pub static KINDS: [Kind; 27] = [
+    kind(
+        "valid-streams",
+        400_000,
+        &[0],
+        &[],
+        Drawn(|draws, row| compared(valid_stream(draws), row)),
+    ),
     kind(
         "damaged-streams",
         600_000,
         &[0, 1, 2, 3, 4, 5, 6],
         &[],
-        |draws, row| compared(damaged_stream(draws), row),
+        Drawn(|draws, row| compared(damaged_stream(draws), row)),
     ),
     kind(
         "random-streams",
         800_000,
         &[0, 1, 2, 3, 4, 5, 6],
         &[],
-        |draws, row| compared(random_stream(draws), row),
+        Drawn(|draws, row| compared(random_stream(draws), row)),
     ),
     kind(
         "single-items",
@@ -70,59 +72,63 @@ pub const KINDS: [Kind; 15] = [
             (4, &[5, 7]),
             (6, &[7]),
         ],
-        |draws, row| compared(single_item(draws), row),
+        Drawn(|draws, row| compared(single_item(draws), row)),
     ),
-    kind("valid-commands", 600_000, &[0], &[], |draws, row| {
-        compared(valid_command(draws), row)
-    }),
+    kind(
+        "valid-commands",
+        600_000,
+        &[0],
+        &[],
+        Drawn(|draws, row| compared(valid_command(draws), row)),
+    ),
     kind(
         "troubled-commands",
         1_200_000,
         &[0, 7, 8],
         &[(8, &[7])],
-        |draws, row| compared(troubled_command(draws), row),
+        Drawn(|draws, row| compared(troubled_command(draws), row)),
     ),
     kind(
         "integer-reports-read",
         800_000,
         &[0, 1, 3, 8],
         &[(3, &[1])],
-        |draws, row| compared(integer_report_read(draws), row),
+        Drawn(|draws, row| compared(integer_report_read(draws), row)),
     ),
     kind(
         "string-reports-read",
         800_000,
         &[0, 1, 3, 5, 7, 8],
         &[(3, &[1, 7]), (1, &[7]), (5, &[3])],
-        |draws, row| compared(string_report_read(draws), row),
+        Drawn(|draws, row| compared(string_report_read(draws), row)),
     ),
     kind(
         "integer-reports-written",
         800_000,
         &[0, 7, 8],
         &[(8, &[7])],
-        |draws, row| compared(integer_report_written(draws), row),
+        Drawn(|draws, row| compared(integer_report_written(draws), row)),
     ),
     kind(
         "string-reports-written",
         800_000,
         &[0, 7, 8],
         &[(8, &[7])],
-        |draws, row| compared(string_report_written(draws), row),
+        Drawn(|draws, row| compared(string_report_written(draws), row)),
     ),
     kind(
         "beam-records",
         800_000,
         &[0, 8, 11],
         &[(11, &[8])],
-        |draws, row| compared(beam_records(draws), row),
+        Drawn(|draws, row| compared(beam_records(draws), row)),
     ),
     kind(
         "surfaces",
         800_000,
         &[0, 8, 9, 10, 11],
         &[(11, &[8, 9, 10]), (8, &[9, 10]), (9, &[8, 10])],
-        |draws, row| compared(surfaces(draws), row),
+        Drawn(|draws, row| compared(surfaces(draws), row)),
     )
     .meeting(&MET),
     kind(
@@ -130,7 +136,7 @@ pub const KINDS: [Kind; 15] = [
         800_000,
         &[0, 8, 12, 13],
         &[(12, &[8, 13]), (8, &[13])],
-        |draws, row| compared(definitions(draws), row),
+        Drawn(|draws, row| compared(definitions(draws), row)),
     ),
     kind(
         "expansions",
@@ -144,14 +150,99 @@ pub const KINDS: [Kind; 15] = [
             (16, &[7]),
             (17, &[7, 16]),
         ],
-        |draws, row| compared(expansion(draws), row),
+        Drawn(|draws, row| compared(expansion(draws), row)),
     ),
     kind(
         "look-ups",
         1_000_000,
         &[0, 8, 12, 14],
         &[(12, &[8])],
-        |draws, row| compared(look_up(draws), row),
+        Drawn(|draws, row| compared(look_up(draws), row)),
+    ),
+    kind(
+        "pictures",
+        6,
+        &[0],
+        &[],
+        Counted(|number, row| compared(picture(number), row)),
+    )
+    .meeting(&WAYS),
+    kind(
+        "every-integer",
+        every::INTEGERS,
+        &[0, 3, 8],
+        &[],
+        Counted(every::integer),
+    ),
+    kind(
+        "every-count",
+        every::COUNTS,
+        &[0, 3, 8],
+        &[],
+        Counted(every::count),
+    ),
+    kind(
+        "every-count-read",
+        every::COUNTS_READ,
+        &[0, 5],
+        &[],
+        Counted(every::count_read),
+    ),
+    kind(
+        "every-report",
+        every::REPORTS,
+        &[0, 3, 8],
+        &[],
+        Counted(every::report),
+    ),
+    kind(
+        "every-report-string",
+        every::REPORT_STRINGS,
+        &[0, 3, 8],
+        &[],
+        Counted(every::report_string),
+    ),
+    kind(
+        "every-coordinate",
+        every::POINTS,
+        &[0],
+        &[],
+        Counted(every::point),
+    ),
+    kind(
+        "coordinates-outside",
+        every::POINTS_OUTSIDE,
+        &[0, 3, 8],
+        &[(8, &[3])],
+        Counted(every::point_outside),
+    ),
+    kind(
+        "integer-bytes",
+        every::SHORT_STRINGS,
+        &[0, 1, 3, 4, 6],
+        &[],
+        Counted(every::integer_bytes),
+    ),
+    kind(
+        "point-bytes",
+        every::SHORT_STRINGS,
+        &[0, 1, 3, 6],
+        &[],
+        Counted(every::point_bytes),
+    ),
+    kind(
+        "report-bytes",
+        every::SHORT_STRINGS,
+        &[0, 1, 3],
+        &[(3, &[1])],
+        Counted(every::report_bytes),
+    ),
+    kind(
+        "six-bytes",
+        every::SIX_BYTES,
+        &[0, 1, 3, 4, 5, 6],
+        &[(4, &[5])],
+        Counted(every::six_bytes),
     ),
 ];
 
@@ -160,7 +251,7 @@ const fn kind(
     cases: u64,
     numbers: &'static [u8],
     orders: &'static [Order],
-    run: Run,
+    making: Making,
 ) -> Kind {
     Kind {
         name,
@@ -168,13 +259,26 @@ const fn kind(
         numbers,
         orders,
         met: &[],
-        run,
+        making,
     }
 }
 
 impl Kind {
     const fn meeting(self, met: &'static [&'static str]) -> Kind {
         Kind { met, ..self }
+    }
+
+    pub fn is_drawn(&self) -> bool {
+        matches!(self.making, Drawn(_))
+    }
+}
+
+/// Runs one case of a kind.
+pub fn run_case(kind: usize, seed: u64, case: u64, row: &mut Row) -> Result<(), String> {
+    row.cases += 1;
+    match KINDS[kind].making {
+        Drawn(run) => run(&mut Draws::of_case(seed, kind, case), row),
+        Counted(run) => run(case, row),
     }
 }
 

@@ -2,6 +2,7 @@
 
 mod case;
 mod draws;
+mod every;
 mod fence;
 mod kinds;
 pub mod options;

@@ -8,7 +8,7 @@ usage: ./compare
        ./compare --seed S --kind KIND --case C
 
 Gives the same inputs to the archive and to the second program and compares all that they answer and leave behind.
-With no argument: the fixed part, 12,800,000 cases, always the same; it takes about a minute.
+With no argument: the fixed part, 12,800,000 cases that are drawn and 53,875,081 that are counted, always the same.
 With --minutes: new cases for N minutes. The seed is taken from the clock and printed; --seed repeats a run.
 With --kind and --case: one case alone, as a difference names it.
 docs/COMPARISON.md explains what is printed. To try it: ./compare --minutes 1";
@@ -40,7 +40,13 @@ pub fn parse(arguments: &[String]) -> Result<Options, String> {
     match (given.minutes, given.seed, given.kind, given.case) {
         (None, None, None, None) => Ok(Options::Fixed),
         (Some(minutes), seed, None, None) => Ok(Options::Minutes { minutes, seed }),
-        (None, Some(seed), Some(kind), Some(case)) => Ok(Options::One { seed, kind, case }),
+        (None, Some(seed), Some(kind), Some(case)) => match &KINDS[kind] {
+            counted if !counted.is_drawn() && case >= counted.cases => Err(format!(
+                "{} has {} cases, the first of which is 0",
+                counted.name, counted.cases
+            )),
+            _ => Ok(Options::One { seed, kind, case }),
+        },
         _ => Err("these arguments do not go together".to_string()),
     }
 }
@@ -127,6 +133,7 @@ mod tests {
             "--minutes 1 --kind stores",
             "--seed -1 --minutes 1",
             "--seed 7 --kind nonsense --case 1",
+            "--seed 7 --kind pictures --case 6",
             "10",
             "--hours 1",
         ] {

@@ -9,7 +9,7 @@ use super::tally::Row;
 const MOST_TRIES: usize = 200_000;
 
 /// The smallest case found, and its difference. Where a side stops in the middle its message has been shown; the tries need not repeat it.
-pub fn smallest<C: Case>(case: C, difference: Difference) -> (C, Difference) {
+fn smallest<C: Case>(case: C, difference: Difference) -> (C, Difference) {
     let hook = take_hook();
     set_hook(Box::new(|_| {}));
     let found = step_by_step(case, difference);
@@ -32,6 +32,14 @@ fn step_by_step<C: Case>(case: C, difference: Difference) -> (C, Difference) {
         }
     }
     found
+}
+
+/// Runs a case and notes its answers. The text of a difference has the smallest input found.
+pub fn compared<C: Case>(case: C, row: &mut Row) -> Result<(), String> {
+    attempt(&case, row).map_err(|difference| {
+        let (case, difference) = smallest(case.clone(), difference);
+        format!("{case}\n{difference}")
+    })
 }
 
 /// The case with another value in one place, for each of these values.

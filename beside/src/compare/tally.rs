@@ -47,8 +47,12 @@ impl Row {
     pub fn done(&mut self, met: &[&'static str]) {
         self.answer(0);
         for &what in met {
-            *self.met.entry(what).or_default() += 1;
+            self.meet(what);
         }
+    }
+
+    pub fn meet(&mut self, what: &'static str) {
+        *self.met.entry(what).or_default() += 1;
     }
 
     pub fn add(&mut self, other: &Row) {
@@ -149,6 +153,7 @@ fn write_times(text: &mut fmt::Formatter, what: &str, times: u64) -> fmt::Result
 #[cfg(test)]
 mod tests {
     use super::*;
+    use crate::compare::kinds::Making;
 
     fn row() -> Row {
         let mut row = Row {
@@ -168,7 +173,7 @@ mod tests {
             numbers,
             orders,
             met,
-            run: |_, _| Ok(()),
+            making: Making::Counted(|_, _| Ok(())),
         }
     }
 

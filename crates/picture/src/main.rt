@@ -1,4 +1,4 @@
-// The picture of docs/PICTURES.md, drawn by RP with the proved calls and written to standard output as a PPM.
+// The picture of docs/COMPARISON.md, drawn by RP with the proved calls and written to standard output as a PPM.
 mod drawing;
 mod ppm;
 

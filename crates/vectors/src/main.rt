@@ -1,11 +1,6 @@
-// Every number in its range, run through the proved crates, and a line for each block of them: docs/VECTORS.md.
-mod blocks;
+// The manual's own table of integers and the papers' single values, run through the proved crates: docs/VECTORS.md.
 mod digest;
-mod integer_cases;
-mod point_cases;
 mod print;
-mod report_cases;
-mod spelling_cases;
 mod table;
 mod values;
 
@@ -18,7 +13,6 @@ pub fn front(s: &[u8], n: usize) -> &[u8] {
 }
 
 fn main() {
-    blocks::lines();
     table::line();
     values::lines();
 }

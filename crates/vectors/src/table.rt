@@ -80,20 +80,20 @@ fn is_written_so(v: i32, bytes: &[u8]) -> bool {
     let mut out = [255; 8];
     match spelling::write_integer(memory::fresh(), v, &mut out, 0) {
         Written::Next(n) => check::same(front(&out, n), bytes),
-        Written::NotWritten(_) => false,
+        Written::Refused(_) => false,
     }
 }
 
 // Whether the bytes read back as the value, "with nothing left over".
 fn is_read_so(v: i32, bytes: &[u8]) -> bool {
     match numbers::read_integer(memory::fresh(), bytes, 0) {
-        IntegerRead::Integer(found, _, next) => {
-            if next != bytes.len() {
+        IntegerRead::Integer(found) => {
+            if found.next != bytes.len() {
                 return false;
             }
-            found == v
+            found.value == v
         }
-        IntegerRead::NoInteger(_, _) => false,
+        IntegerRead::Refused(_, _) => false,
     }
 }
 

@@ -17,7 +17,7 @@ fn written(answer: Written, out: &[u8]) {
     print::text(b" = ");
     match answer {
         Written::Next(n) => print::bytes(front(out, n)),
-        Written::NotWritten(e) => refusal(e),
+        Written::Refused(e) => refusal(e),
     }
     print::text(b"\n");
 }
@@ -61,8 +61,8 @@ fn read(s: &[u8]) {
     print::bytes(s);
     print::text(b" = ");
     match numbers::read_integer(memory::fresh(), s, 0) {
-        IntegerRead::Integer(v, _, _) => print::signed(v),
-        IntegerRead::NoInteger(e, at) => {
+        IntegerRead::Integer(integer) => print::signed(integer.value),
+        IntegerRead::Refused(e, at) => {
             refusal(e);
             print::text(b" at ");
             print::number(at as u64);

@@ -38,7 +38,7 @@ pub fn valid_command(draws: &mut Draws) -> Writing {
         point,
         room: 0,
     };
-    writing.room = writing.length().unwrap_or(0) + draws.below(MORE_ROOM);
+    writing.room = writing.spelling().map_or(0, |spelling| spelling.len()) + draws.below(MORE_ROOM);
     // Numbers that the command does not have, and the list of one that has none, are not looked at.
     for value in &mut writing.values[numbers.len()..] {
         *value = draws.any_integer();

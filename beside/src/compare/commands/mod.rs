@@ -4,3 +4,4 @@ mod making;
 mod writing;
 
 pub use making::{troubled_command, valid_command};
+pub use writing::Writing;

@@ -55,7 +55,10 @@ impl Writing {
 
     fn by_second(&self) -> Written {
         let mut out = Fenced::room(self.room);
-        match self.spelled_into(out.lent()) {
+        let answer = self
+            .spelled()
+            .and_then(|(spelling, point)| Ok((put(&spelling, out.lent(), 0)?, point)));
+        match answer {
             Ok((written, point)) => Written {
                 number: 0,
                 written,
@@ -71,22 +74,18 @@ impl Writing {
         }
     }
 
-    /// How many bytes, and the point that is remembered then.
-    fn spelled_into(&self, out: &mut [u8]) -> Result<(usize, [u16; 2]), Refusal> {
+    /// The bytes, whatever the room, and the point that is remembered then.
+    fn spelled(&self) -> Result<(Vec<u8>, [u16; 2]), Refusal> {
         let [x, y] = self.point.map(u32::from);
         let remembered = Point { x, y };
         let command = self.command().ok_or(Refusal::OutOfRange)?;
         let spelling = spell_command(&command, remembered)?;
-        let written = put(&spelling, out, 0)?;
         let last = command.last_point().unwrap_or(remembered);
-        Ok((written, [last.x as u16, last.y as u16]))
+        Ok((spelling, [last.x as u16, last.y as u16]))
     }
 
-    /// How long the spelling is, where there is one.
-    pub fn length(&self) -> Option<usize> {
-        let mut out = [0; 1100];
-        let written = self.spelled_into(&mut out);
-        written.ok().map(|(length, _)| length)
+    pub fn spelling(&self) -> Option<Vec<u8>> {
+        self.spelled().ok().map(|(spelling, _)| spelling)
     }
 
     /// None for letters that are no command's, and for what cannot even be named: a coordinate below 0, a character that is no byte.

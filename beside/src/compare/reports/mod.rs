@@ -7,3 +7,5 @@ mod writing;
 pub use making::{
     integer_report_read, integer_report_written, string_report_read, string_report_written,
 };
+pub use reading::{ReportRead, What as Read};
+pub use writing::{ReportWritten, What as Written};

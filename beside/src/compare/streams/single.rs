@@ -21,10 +21,10 @@ const OUTSIDE: [u16; 4] = [4096, 4097, 32768, 65535];
 
 #[derive(Clone)]
 pub struct Single {
-    bytes: Vec<u8>,
-    start: usize,
-    point: [u16; 2],
-    room: usize,
+    pub bytes: Vec<u8>,
+    pub start: usize,
+    pub point: [u16; 2],
+    pub room: usize,
 }
 
 pub fn single_item(draws: &mut Draws) -> Single {

@@ -54,8 +54,9 @@ impl Sequence {
     }
 }
 
-impl Case for Sequence {
-    fn run(&self, row: &mut Row) -> Result<(), Difference> {
+impl Sequence {
+    /// What both sides are left with.
+    pub fn carried_out(&self, row: &mut Row) -> Result<Side, Difference> {
         let mut archive = Side::before(self.record, self.surface());
         let mut second = Side::before(self.record, self.surface());
         for (index, call) in self.calls.iter().enumerate() {
@@ -72,7 +73,13 @@ impl Case for Sequence {
                 number => row.refusal(number, &reasons(call, record)),
             }
         }
-        Ok(())
+        Ok(archive)
+    }
+}
+
+impl Case for Sequence {
+    fn run(&self, row: &mut Row) -> Result<(), Difference> {
+        self.carried_out(row).map(|_| ())
     }
 
     fn smaller(&self) -> Vec<Sequence> {

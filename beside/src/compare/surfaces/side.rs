@@ -17,7 +17,7 @@ pub struct Side {
     pub number: u8,
     count: usize,
     pub record: [usize; 7],
-    surface: Fenced<u8>,
+    pub surface: Fenced<u8>,
 }
 
 impl Side {
