@@ -4,6 +4,7 @@
 program="$root/target/bin/$crate"
 
 source "$root/desk/common.sh"
+source "$root/desk/machine.sh"
 
 is_built() {
     is_current "$program"
