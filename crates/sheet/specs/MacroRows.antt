@@ -5,8 +5,7 @@ use lib.ListN.{length, replicate}
 use lib.IntN.{ℤ, pos}
 use Rattle.macros.specs.Store.{Entry, threeBytes, encoded, lookedUp, findRefusal, Placed, placed}
 use Rattle.defining.specs.Defining.{defineRefusal, storeAfter}
-use Rattle.commands.specs.Reading.{Told}
-use Rattle.expansion.specs.Expansion.{expandTold, expandOut}
+use Rattle.expansion.specs.Expansion.{ExpansionAnswer, expandTold, expandOut}
 use Rattle.sheet.specs.Rows.{SheetRow}
 
 -- ---- stores
@@ -79,7 +78,7 @@ chain last =
 -- a macro expanded from a volatile and a saved store into three bytes 9: the refusal, bytes written, macros entered, and the output
 abbrev expand : (volatile saved : List Entry) → ℤ → (number written entered : ℕ) → List ℕ → SheetRow
 expand v s n number written entered out =
-    let t : Told = expandTold (encoded threeBytes v) (encoded threeBytes s) n 3 in
+    let t : ExpansionAnswer = expandTold (encoded threeBytes v) (encoded threeBytes s) n 3 in
     record {
       given = t .number ∷ t .written ∷ t .entered ∷ expandOut (encoded threeBytes v) (encoded threeBytes s) n (replicate 3 9);
       paper = number ∷ written ∷ entered ∷ out;

@@ -28,9 +28,8 @@ use Rattle.pixels.specs.Marks.{place, laid, moved, rowEnd}
 use Rattle.pixels.specs.Writes.{pixels, characterMarks, leftAfter, rasterMarks, runMarks, runTotal, written, surfaceAfter, drawRaster, rasterSurface, drawRuns, runsSurface}
 use Rattle.pixel_refusals.specs.Tests.{isSurface, pixelCharacters, rasterNumbers, rasterCharacters, runNumbers, writeRefusal, rasterRefusal, runRefusal}
 use Rattle.balance.specs.Balance.{after, returned, ran}
-use Rattle.macros.specs.Store.{threeBytes, encoded, wellFormed, keep, bodyOf, bodyInEither, lookRefusal, findRefusal, lookedUp, placed, hasBody, bodyByHeaders, lookedByHeaders}
-use Rattle.writable.specs.Writable.{isEntry}
-use Rattle.parameters.specs.Entries.{entriesFrom}
+use Rattle.macros.specs.Store.{isStoreEntry, threeBytes, encoded, wellFormed, keep, bodyOf, bodyInEither, lookRefusal, findRefusal, lookedUp, placed, hasBody, bodyByHeaders, lookedByHeaders}
+use Rattle.macros.specs.Store.{frontEntries}
 use Rattle.defining.specs.Defining.{mayDefine, beforeRoom, defineRefusal, storeAfter}
 use Rattle.pieces.specs.Pieces.{commandPiece, pieceOf, pieceAt}
 use Rattle.expansion.specs.Expansion.{walked, entering, callStretch, started, expandRefusal, expandTold, expandOut}
@@ -61,8 +60,8 @@ unfolding every number valueOr placeOf endsAfter allAfter byteAt pairAt isItself
     opening textLine letters commandHead parametersWords commandLine pair refusedLine lineOf lastLine isSize isBits onSurface inViewport
     isValid settled makeFresh bitsFrom setBits cornersOn framed setViewport setBeam stepped makeStep place laid moved rowEnd pixels
     characterMarks leftAfter rasterMarks runMarks runTotal isSurface pixelCharacters rasterNumbers rasterCharacters runNumbers writeRefusal
-    rasterRefusal runRefusal written surfaceAfter drawRaster rasterSurface drawRuns runsSurface after returned ran threeBytes encoded isEntry
-    entriesFrom wellFormed keep bodyOf mayDefine beforeRoom defineRefusal storeAfter bodyInEither lookRefusal findRefusal lookedUp placed
+    rasterRefusal runRefusal written surfaceAfter drawRaster rasterSurface drawRuns runsSurface after returned ran threeBytes encoded isStoreEntry
+    frontEntries wellFormed keep bodyOf mayDefine beforeRoom defineRefusal storeAfter bodyInEither lookRefusal findRefusal lookedUp placed
     hasBody bodyByHeaders lookedByHeaders commandPiece pieceOf pieceAt walked entering callStretch started expandRefusal expandTold expandOut
     beamIn fieldsOf keptIn twoOf itemKept itemNumber kindIn itemFields fourOf itemValues ofKind ofFound commandGiven keptAfter placeFields
     countFields

@@ -9,8 +9,7 @@ use Rattle.defining.specs.Defining.{defineRefusal, storeAfter}
 use Rattle.pieces.specs.declared.Piece.{Piece}
 use Rattle.pieces.specs.declared.Piece.the-variants.{End, Copied, Called, Broken}
 use Rattle.pieces.specs.Pieces.{pieceAt}
-use Rattle.commands.specs.Reading.{Told}
-use Rattle.expansion.specs.Expansion.{expandTold, expandOut}
+use Rattle.expansion.specs.Expansion.{ExpansionAnswer, expandTold, expandOut}
 use Rattle.macro_calls.specs.Slots.{placeFields, countFields}
 use Rattle.sheet.specs.Rows.{Wrong, but, joined, truth, signs}
 use Rattle.sheet.specs.MacroRows.{macro, kx, kxNegative, chain, five, other}
@@ -148,7 +147,7 @@ wrong-piece-at =
 
 abbrev expanded : (volatile saved : List Entry) → ℤ → List ℕ → List ℕ
 expanded v s n out =
-    let t : Told = expandTold (encoded threeBytes v) (encoded threeBytes s) n (length out) in
+    let t : ExpansionAnswer = expandTold (encoded threeBytes v) (encoded threeBytes s) n (length out) in
     t .number ∷ t .written ∷ t .entered ∷ expandOut (encoded threeBytes v) (encoded threeBytes s) n out
 
 abbrev from-one : List ℕ → List ℕ → Wrong
@@ -204,7 +203,7 @@ wrong-ardh-look-up =
 
 abbrev expand-slots : (volatile saved : List Entry) → List ℕ → Wrong
 expand-slots v s wrong =
-    let t : Told = expandTold (encoded threeBytes v) (encoded threeBytes s) (pos 1) 3 in
+    let t : ExpansionAnswer = expandTold (encoded threeBytes v) (encoded threeBytes s) (pos 1) 3 in
     but (t .number ∷ (countFields t ++ expandOut (encoded threeBytes v) (encoded threeBytes s) (pos 1) (9 ∷ 9 ∷ 9 ∷ []))) wrong
 
 abbrev pub wrong-ardh-expand : List Wrong

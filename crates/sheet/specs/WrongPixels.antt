@@ -9,8 +9,7 @@ use Rattle.coordinates.specs.Coordinates.{pointGiven}
 use Rattle.beam.specs.declared.Beam.{Beam}
 use Rattle.beam.specs.Validity.{isSize, isValid}
 use Rattle.beam.specs.Settings.{Settled, makeFresh, setBits, setViewport, setBeam, stepped, makeStep}
-use Rattle.commands.specs.Reading.{Told}
-use Rattle.pixels.specs.Writes.{drawRaster, rasterSurface, drawRuns, runsSurface}
+use Rattle.pixels.specs.Writes.{WriteOutcome, drawRaster, rasterSurface, drawRuns, runsSurface}
 use Rattle.balance.specs.Balance.{Call, raster, runs, bits, State, returned, ran}
 use Rattle.pixel_calls.specs.Fields.{beamIn, fieldsOf}
 use Rattle.sheet.specs.Rows.{Wrong, but, joined, truth, at}
@@ -133,7 +132,7 @@ wrong-step-lent =
 
 -- ---- pixels: the number, the number of pixels, the record, and the surface
 
-abbrev drawnIs : Told → List ℕ → List ℕ
+abbrev drawnIs : WriteOutcome → List ℕ → List ℕ
 drawnIs t surface = t .number ∷ t .count ∷ (fieldsOf (t .after) ++ surface)
 
 abbrev rastered : List ℕ → ℤ → List ℤ → List ℕ → List ℕ
