@@ -1,13 +1,10 @@
 // The report calls for programs in other languages (include/ardhrumesh.h): the answer is a number, and what goes with it is written to lent slots.
 ghost use mathlib.Core.Path.{_≡_};
-ghost use Prim.Native.Nat.{ℕ};
 ghost use lib.ListN.{length};
-ghost use lib.IntN.{ℤ, pos};
-ghost use Rattle.refusals.specs.Answers.{number, valueOr, placeOf, Read};
 ghost use Rattle.wire.specs.Sending.{afterWrite};
-ghost use Rattle.reports.specs.declared.TakenString.{TakenString};
 ghost use Rattle.reports.specs.Reading.{reportAt, stringAt, afterString};
 ghost use Rattle.reports.specs.Writing.{spellReport, writeReport, spellString, writeString};
+ghost use Rattle.report_calls.specs.Promises.{HandsInteger, HandsString, HandsWriting};
 use numbers::IntegerRead;
 use reports::StringRead;
 use wire::Written;
@@ -19,9 +16,7 @@ pub extern "C" fn ardh_read_integer_report(
     value: &mut i32,
     place: &mut usize,
 ) -> u8
-    ensures { λ r. ⌜ r ≡ number (reportAt (now (bytes .entry)) start) ⌝ }
-    ensures { λ _. ⌜ now (value .exit) ≡ valueOr (pos 0) (λ (v : Read ℤ). v .value) (reportAt (now (bytes .entry)) start) ⌝ }
-    ensures { λ _. ⌜ now (place .exit) ≡ placeOf (λ (v : Read ℤ). v .next) (reportAt (now (bytes .entry)) start) ⌝ }
+    ensures { λ r. ⌜ HandsInteger (reportAt (now (bytes .entry)) start) r (now (value .exit)) (now (place .exit)) ⌝ }
 {
     match reports::read_integer(bytes, start) {
         IntegerRead::Integer(integer) => {
@@ -46,9 +41,7 @@ pub extern "C" fn ardh_read_string_report(
     count: &mut usize,
     place: &mut usize,
 ) -> u8
-    ensures { λ r. ⌜ r ≡ number (stringAt (now (bytes .entry)) start (length (now (list .entry)))) ⌝ }
-    ensures { λ _. ⌜ now (count .exit) ≡ valueOr 0 (λ (h : TakenString). h .count) (stringAt (now (bytes .entry)) start (length (now (list .entry)))) ⌝ }
-    ensures { λ _. ⌜ now (place .exit) ≡ placeOf (λ (h : TakenString). h .next) (stringAt (now (bytes .entry)) start (length (now (list .entry)))) ⌝ }
+    ensures { λ r. ⌜ HandsString (stringAt (now (bytes .entry)) start (length (now (list .entry)))) r (now (count .exit)) (now (place .exit)) ⌝ }
     ensures { λ _. ⌜ now (list .exit) ≡ afterString (stringAt (now (bytes .entry)) start (length (now (list .entry)))) (now (bytes .entry)) start (now (list .entry)) ⌝ }
 {
     match reports::read_string(bytes, start, list) {
@@ -72,8 +65,7 @@ pub extern "C" fn ardh_write_integer_report(
     start: usize,
     next: &mut usize,
 ) -> u8
-    ensures { λ r. ⌜ r ≡ number (writeReport value (length (now (out .entry))) start) ⌝ }
-    ensures { λ _. ⌜ now (next .exit) ≡ valueOr 0 (λ (n : ℕ). n) (writeReport value (length (now (out .entry))) start) ⌝ }
+    ensures { λ r. ⌜ HandsWriting (writeReport value (length (now (out .entry))) start) r (now (next .exit)) ⌝ }
     ensures { λ _. ⌜ now (out .exit) ≡ afterWrite (writeReport value (length (now (out .entry))) start) (spellReport value) (now (out .entry)) start ⌝ }
 {
     match reports::write_integer(value, out, start) {
@@ -95,8 +87,7 @@ pub extern "C" fn ardh_write_string_report(
     start: usize,
     next: &mut usize,
 ) -> u8
-    ensures { λ r. ⌜ r ≡ number (writeString (now (list .entry)) (length (now (out .entry))) start) ⌝ }
-    ensures { λ _. ⌜ now (next .exit) ≡ valueOr 0 (λ (n : ℕ). n) (writeString (now (list .entry)) (length (now (out .entry))) start) ⌝ }
+    ensures { λ r. ⌜ HandsWriting (writeString (now (list .entry)) (length (now (out .entry))) start) r (now (next .exit)) ⌝ }
     ensures { λ _. ⌜ now (out .exit) ≡ afterWrite (writeString (now (list .entry)) (length (now (out .entry))) start) (spellString (now (list .entry))) (now (out .entry)) start ⌝ }
 {
     match reports::write_string(list, out, start) {

@@ -19,13 +19,13 @@ same-length : tie.Need-same-length
 same-length c = search needs
 
 returns : tie.Need-returns
-returns c = (search (needs, string-done), (search (needs, string-count), (search (needs, string-next), search (needs, string-list))))
+returns c = (search (needs, string-done, string-count, string-next), search (needs, string-list))
 
 same-length-2 : tie.Need-same-length-2
 same-length-2 c = search needs
 
 returns-2 : tie.Need-returns-2
-returns-2 c = (search (needs, string-refused), (search (needs, string-none), (search (needs, string-place), search (needs, string-list))))
+returns-2 c = (search (needs, string-refused, string-none, string-place), search (needs, string-list))
 
 pub ardh-read-string-report-spec : {M : Type 1} → statement M
 ardh-read-string-report-spec =

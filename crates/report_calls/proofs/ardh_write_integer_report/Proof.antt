@@ -20,13 +20,13 @@ same-length : tie.Need-same-length
 same-length c = search needs
 
 returns : tie.Need-returns
-returns c = (search (needs, written-done, report-given), (search (needs, written-next, report-given), search (needs, written-out, report-given, spelling-given)))
+returns c = (search (needs, written-done, written-next, report-given), search (needs, written-out, report-given, spelling-given))
 
 same-length-2 : tie.Need-same-length-2
 same-length-2 c = search needs
 
 returns-2 : tie.Need-returns-2
-returns-2 c = (search (needs, written-refused, report-given), (search (needs, written-none, report-given), search (needs, written-out, report-given, spelling-given)))
+returns-2 c = (search (needs, written-refused, written-none, report-given), search (needs, written-out, report-given, spelling-given))
 
 pub ardh-write-integer-report-spec : {M : Type 1} → statement M
 ardh-write-integer-report-spec =

@@ -19,13 +19,13 @@ same-length : tie.Need-same-length
 same-length c = search needs
 
 returns : tie.Need-returns
-returns c = (search (needs, written-done), (search (needs, written-next), search (needs, written-out)))
+returns c = (search (needs, written-done, written-next), search (needs, written-out))
 
 same-length-2 : tie.Need-same-length-2
 same-length-2 c = search needs
 
 returns-2 : tie.Need-returns-2
-returns-2 c = (search (needs, written-refused), (search (needs, written-none), search (needs, written-out)))
+returns-2 c = (search (needs, written-refused, written-none), search (needs, written-out))
 
 pub ardh-write-string-report-spec : {M : Type 1} → statement M
 ardh-write-string-report-spec =
