@@ -89,7 +89,7 @@ pub fn write_integer(kept: Remembered, v: i32, out: &mut [u8], at: usize) -> Wri
 pub fn write_count(kept: Remembered, n: usize, out: &mut [u8], at: usize) -> Written
     ensures { λ r. ⌜ (writtenOf r ≡ writeCount kept n (length (now (out .entry))) at) × (now (out .exit) ≡ afterWrite (writtenOf r) (sent kept (spell (pos n))) (now (out .entry)) at) ⌝ }
 {
-    if n > MOST_ENTRIES {
+    if MOST_ENTRIES < n {
         return Written::Refused(Refusal::NotValid);
     }
     let v = n as i32;
