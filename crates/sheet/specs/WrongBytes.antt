@@ -93,8 +93,8 @@ wrong-in-room =
 abbrev laying : List ℕ → List ℕ → ℕ → List ℕ → Wrong
 laying w out start wrong = but (writingOf (writeAt w (length out) start) (afterWrite (writeAt w (length out) start) w out start)) wrong
 
-abbrev pub wrong-lay : List Wrong
-wrong-lay =
+abbrev pub wrong-write-bytes : List Wrong
+wrong-write-bytes =
     -- "A refused call leaves .. output bytes as they were on entry": none is written and then refused
     laying (1 ∷ []) (9 ∷ 9 ∷ []) 1 (7 ∷ 0 ∷ 9 ∷ 1 ∷ [])
     -- "Beyond the result a lent list or output is unchanged": the bytes go where they were asked for
@@ -177,8 +177,8 @@ wrong-are-characters =
 abbrev laid-entries : List ℤ → List ℕ → List ℕ → Wrong
 laid-entries vs out wrong = but (sets out 1 (lowBytes vs)) wrong
 
-abbrev pub wrong-lay-characters : List Wrong
-wrong-lay-characters =
+abbrev pub wrong-copy-characters : List Wrong
+wrong-copy-characters =
     -- the bytes stand from where they were asked for, and are those of the entries: whole bytes, 127 among them
     laid-entries (pos 65 ∷ []) (9 ∷ 9 ∷ []) (65 ∷ 9 ∷ [])
     ∷ laid-entries (pos 65 ∷ []) (9 ∷ 9 ∷ []) (9 ∷ 0 ∷ [])
@@ -199,7 +199,7 @@ column-of-bytes =
     ∷ wrong-three-ahead
     ∷ wrong-room-for
     ∷ wrong-in-room
-    ∷ wrong-lay
+    ∷ wrong-write-bytes
     ∷ wrong-pour-behind
     ∷ wrong-pour-one
     ∷ wrong-pour-two
@@ -209,5 +209,5 @@ column-of-bytes =
     ∷ wrong-are-within
     ∷ wrong-is-character
     ∷ wrong-are-characters
-    ∷ wrong-lay-characters
+    ∷ wrong-copy-characters
     ∷ [])

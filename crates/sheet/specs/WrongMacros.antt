@@ -1,10 +1,10 @@
--- Wrong answers of `macros`, `pieces` and `expansion`, and of the exported macro calls. Each row: a call, its input, and what it must not answer.
-use Prim.Native.Nat.{ℕ}
+-- Wrong answers of `macros`, `defining`, `pieces` and `expansion`, and of the exported macro calls. Each row: a call, its input, and what it must not answer.
+use Prim.Native.Nat.{ℕ, suc}
 use mathlib.Core.List.{List, [], _∷_, _++_, map}
 use lib.ListN.{length, replicate}
 use lib.IntN.{ℤ, pos}
 use Rattle.memory.specs.Memory.{freshMemory}
-use Rattle.macros.specs.Store.{Entry, threeBytes, encoded, wellFormed, lookedUp, findRefusal, Placed, placed, lookedByHeaders}
+use Rattle.macros.specs.Store.{Entry, threeBytes, encoded, sizeOf, below, entries, wellFormed, lookedUp, findRefusal, Placed, placed, lookedByHeaders}
 use Rattle.defining.specs.Defining.{defineRefusal, storeAfter}
 use Rattle.pieces.specs.declared.Piece.{Piece}
 use Rattle.pieces.specs.declared.Piece.the-variants.{End, Copied, Called, Broken}
@@ -32,6 +32,20 @@ wrong-is-well-formed =
     ∷ but (truth (wellFormed threeBytes (0 ∷ 10 ∷ 2 ∷ 200 ∷ 1 ∷ []))) (1 ∷ [])
     -- "9 bits of body length 1..256": a body may have 256 bytes
     ∷ but (truth (wellFormed threeBytes longest)) (0 ∷ [])
+    ∷ []
+
+-- where an entry begins or would begin, where it ends, and where the entries end
+abbrev surveyed : List ℕ → ℕ → List ℕ
+surveyed s n = sizeOf threeBytes (below n (entries threeBytes s)) ∷ sizeOf threeBytes (below (suc n) (entries threeBytes s)) ∷ sizeOf threeBytes (entries threeBytes s) ∷ []
+
+abbrev pub wrong-inspect : List Wrong
+wrong-inspect =
+    -- "entries in rising macro number": a macro that is there, one that would stand before it, one behind it
+    but (surveyed five 5) (0 ∷ 0 ∷ 5 ∷ [])
+    ∷ but (surveyed five 4) (5 ∷ 5 ∷ 5 ∷ [])
+    ∷ but (surveyed five 6) (0 ∷ 5 ∷ 5 ∷ [])
+    -- "The rest of the store is all zeros": the entries end before it
+    ∷ but (surveyed five 5) (0 ∷ 5 ∷ 8 ∷ [])
     ∷ []
 
 -- the refusal, and the store
@@ -220,6 +234,7 @@ abbrev pub column-of-macros : List Wrong
 column-of-macros =
     joined
     (wrong-is-well-formed
+    ∷ wrong-inspect
     ∷ wrong-define
     ∷ wrong-look-up
     ∷ wrong-locate

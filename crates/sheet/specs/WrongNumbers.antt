@@ -1,4 +1,4 @@
--- Wrong answers of `numbers`, `points` and `coordinates`. Each row: a call, its input, and what it must not answer.
+-- Wrong answers of `signs`, `numbers`, `spelling`, `points` and `coordinates`. Each row: a call, its input, and what it must not answer.
 use Prim.Native.Nat.{ℕ}
 use mathlib.Core.Bool.{true, false, _&&_}
 use mathlib.Core.List.{List, [], _∷_}
@@ -11,7 +11,7 @@ use Rattle.memory.specs.declared.Point.{Point}
 use Rattle.memory.specs.declared.Remembered.{Remembered}
 use Rattle.memory.specs.Memory.{freshMemory, inside}
 use Rattle.wire.specs.Sending.{sent, poured, afterWrite}
-use Rattle.signs.specs.Signs.{signedOf, isNegative, isInteger}
+use Rattle.signs.specs.Signs.{signedOf, isNegative, mostMagnitude, isInteger}
 use Rattle.numbers.specs.Integers.{lowOf, integerAt, spell, writeInteger}
 use Rattle.ranges.specs.Ranges.{mostEntries}
 use Rattle.numbers.specs.Counts.{countIn, countAt, writeCount}
@@ -20,7 +20,7 @@ use Rattle.points.specs.Writing.{spellPoint, writePoint}
 use Rattle.coordinates.specs.Coordinates.{pointGiven}
 use Rattle.sheet.specs.Rows.{Wrong, but, joined, truth, signs, at, from, readingOf, number-is, point-is, writingOf}
 
--- ---- numbers
+-- ---- signs, numbers, spelling
 
 abbrev pub wrong-signed : List Wrong
 wrong-signed =
@@ -41,6 +41,13 @@ wrong-is-negative =
     -- "0 = 48": 0 is not negative, and 5 is not
     but (truth (isNegative (pos 0))) (1 ∷ [])
     ∷ but (truth (isNegative (pos 5))) (1 ∷ [])
+    ∷ []
+
+abbrev pub wrong-most-magnitude : List Wrong
+wrong-most-magnitude =
+    -- "Range -32768..32767": the sign decides
+    but (mostMagnitude true ∷ []) (32767 ∷ [])
+    ∷ but (mostMagnitude false ∷ []) (32768 ∷ [])
     ∷ []
 
 abbrev pub wrong-is-integer : List Wrong
@@ -197,8 +204,8 @@ wrong-pour-point =
 
 -- ---- coordinates
 
-abbrev pub wrong-point-of : List Wrong
-wrong-point-of =
+abbrev pub wrong-point-given : List Wrong
+wrong-point-given =
     -- "x and y 0..4095": what is outside stays outside, and x comes first
     but (point-is (pointGiven (pos 4095) (pos 0))) (4096 ∷ 0 ∷ [])
     ∷ but (point-is (pointGiven (pos 4096) (pos 0))) (4095 ∷ 0 ∷ [])
@@ -213,6 +220,7 @@ column-of-numbers =
     (wrong-signed
     ∷ wrong-magnitude
     ∷ wrong-is-negative
+    ∷ wrong-most-magnitude
     ∷ wrong-is-integer
     ∷ wrong-low-of
     ∷ wrong-read-integer
@@ -225,5 +233,5 @@ column-of-numbers =
     ∷ wrong-read-point
     ∷ wrong-write-point
     ∷ wrong-pour-point
-    ∷ wrong-point-of
+    ∷ wrong-point-given
     ∷ [])

@@ -1,4 +1,4 @@
--- Wrong answers of `beam`, `stepping`, `pixels` and `balance`, and of the exported pixel calls. Each row: a call, its input, and what it must not
+-- Wrong answers of `beam`, `stepping`, `pixel_refusals`, `pixels` and `balance`, and of the exported pixel calls. Each row: a call, its input, and what it must not
 -- answer. A record is its seven numbers: bits, left, bottom, right, top, x, y.
 use Prim.Native.Nat.{ℕ}
 use mathlib.Core.List.{List, [], _∷_, _++_}
@@ -9,6 +9,7 @@ use Rattle.coordinates.specs.Coordinates.{pointGiven}
 use Rattle.beam.specs.declared.Beam.{Beam}
 use Rattle.beam.specs.Validity.{isSize, isValid}
 use Rattle.beam.specs.Settings.{Settled, makeFresh, setBits, setViewport, setBeam, stepped, makeStep}
+use Rattle.pixel_refusals.specs.Tests.{rasterRefusal, runRefusal}
 use Rattle.pixels.specs.Writes.{WriteOutcome, drawRaster, rasterSurface, drawRuns, runsSurface}
 use Rattle.balance.specs.Balance.{Call, raster, runs, bits, State, returned, ran}
 use Rattle.pixel_calls.specs.Fields.{beamIn, fieldsOf}
@@ -128,6 +129,27 @@ wrong-step-lent =
     ∷ but (settledIs (makeStep 2 2 (beamIn (0 ∷ 0 ∷ 0 ∷ 1 ∷ 1 ∷ 1 ∷ 2 ∷ [])))) (8 ∷ 0 ∷ 0 ∷ 0 ∷ 1 ∷ 1 ∷ 0 ∷ 2 ∷ [])
     -- "moves the beam one place in that record"
     ∷ but (settledIs (makeStep 2 2 (beamIn fresh))) (0 ∷ fresh)
+    ∷ []
+
+-- ---- pixel_refusals: 0 or the number
+
+abbrev pub wrong-raster-verdict : List Wrong
+wrong-raster-verdict =
+    -- "Order: 11, 8 for the record, 9, 8 for a number outside 0..32767 .., then 10"
+    but (rasterRefusal 2 2 5 (beamIn fresh) (negsuc 0) [] ∷ []) (9 ∷ [])
+    ∷ but (rasterRefusal 2 2 4 (beamIn fresh) (negsuc 0) [] ∷ []) (8 ∷ [])
+    ∷ but (rasterRefusal 2 2 4 (beamIn three) (negsuc 0) (pos 31 ∷ []) ∷ []) (10 ∷ [])
+    -- "There must be exactly as many characters as N needs"
+    ∷ but (rasterRefusal 2 2 4 (beamIn three) (pos 3) (pos 40 ∷ []) ∷ []) (0 ∷ [])
+    -- "32..95", and 96
+    ∷ but (rasterRefusal 2 2 4 (beamIn three) (pos 1) (pos 97 ∷ []) ∷ []) (0 ∷ [])
+    ∷ []
+
+abbrev pub wrong-run-verdict : List Wrong
+wrong-run-verdict =
+    -- the same order, and "in RL each code"
+    but (runRefusal 2 2 5 (beamIn fresh) (negsuc 0 ∷ []) ∷ []) (8 ∷ [])
+    ∷ but (runRefusal 2 2 4 (beamIn three) (pos 21 ∷ negsuc 0 ∷ []) ∷ []) (0 ∷ [])
     ∷ []
 
 -- ---- pixels: the number, the number of pixels, the record, and the surface
@@ -301,6 +323,8 @@ column-of-pixels =
     ∷ wrong-step
     ∷ wrong-step-on
     ∷ wrong-step-lent
+    ∷ wrong-raster-verdict
+    ∷ wrong-run-verdict
     ∷ wrong-draw-raster
     ∷ wrong-row-end
     ∷ wrong-draw-runs
