@@ -60,7 +60,9 @@ fn stack_table(depths: &[Depth]) -> String {
 /// The whole page; `undefined` are the symbols that the archive takes from elsewhere.
 pub fn page(rows: &[Row], depths: &[Depth], undefined: &str) -> String {
     let tables = [("TIMES\n", table(rows)), ("DEPTHS\n", stack_table(depths))];
-    let mut page = PAGE.replace("UNDEFINED", undefined);
+    let mut page = PAGE
+        .replace("UNDEFINED", undefined)
+        .replace("MACHINE", std::env::consts::ARCH);
     for (mark, table) in tables {
         page = page.replace(mark, &table);
     }
