@@ -65,10 +65,10 @@ enum {
 
 /* The kinds of parameters: what stands in item[5] behind a command, and what values[] then holds. */
 enum {
-    ARDH_KIND_INTEGER = 1,             /* values[0] */
+    ARDH_KIND_ONE_INTEGER = 1,         /* values[0] */
     ARDH_KIND_TWO_INTEGERS = 2,        /* values[0], values[1] */
     ARDH_KIND_THREE_INTEGERS = 3,      /* values[0] to values[2] */
-    ARDH_KIND_POINT = 4,               /* x in values[0], y in values[1] */
+    ARDH_KIND_ONE_POINT = 4,           /* x in values[0], y in values[1] */
     ARDH_KIND_TWO_POINTS = 5,          /* x, y in values[0], values[1], and x, y in values[2], values[3] */
     ARDH_KIND_REAL = 6,                /* mantissa in values[0], exponent in values[1] */
     ARDH_KIND_STRING = 7,              /* the list alone, an entry a character */

@@ -17,29 +17,27 @@ use Rattle.table.specs.declared.Kind.{Kind}
 use Rattle.table.specs.declared.Found.{Found}
 use Rattle.table.specs.declared.Found.the-variants.{Is, NoKind}
 use Rattle.table.specs.Table.{begins, kindOf}
-use Rattle.parameters.specs.declared.Parameters.{Parameters}
-use Rattle.parameters.specs.declared.Run.{Run}
-use Rattle.parameters.specs.declared.Look.{Look}
-use Rattle.parameters.specs.declared.Look.the-variants as L
+use Rattle.parameters.specs.declared.TakenParameters.{TakenParameters}
+use Rattle.parameters.specs.declared.ParametersRead.{ParametersRead}
 use Rattle.parameters.specs.Entries.{handed}
 use Rattle.parameters.specs.Shapes.{shapeOf}
 use Rattle.parameters.specs.Looking.{Parsed, parametersAt, lookOf, afterLook}
 use Rattle.commands.specs.declared.CommandRead.{CommandRead}
-use Rattle.commands.specs.declared.CommandRead.the-variants.{Whole, Broken}
+use Rattle.commands.specs.declared.CommandRead.the-variants.{Whole}
 use Rattle.commands.specs.declared.LetterRead.{LetterRead}
-use Rattle.commands.specs.declared.LetterRead.the-variants.{Letter, NoLetter}
+use Rattle.commands.specs.declared.LetterRead.the-variants.{Letter}
 use Rattle.commands.specs.declared.HeadRead.{HeadRead}
-use Rattle.commands.specs.declared.HeadRead.the-variants.{Head, NoHead}
-use Rattle.commands.specs.Reading.{letterAt, letterOf, Letters, headOf, secondAt, headAt, Meaning, meaning, bodyAt, commandAt, Told, told, commandOf, afterEntries}
+use Rattle.commands.specs.declared.HeadRead.the-variants.{Head}
+use Rattle.commands.specs.Reading.{letterAt, letterOf, Letters, headOf, secondAt, headAt, Meaning, meaning, bodyAt, commandAt, ToldCommand, told, commandOf, afterEntries}
 
 -- ---- the letters
 
 module _ (s : List ℕ) (at : ℕ) {r : LetterRead} (er : letterOf r ≡ letterAt s at) where
-  pub second-none : (a : ℕ) {x : Refusal} {p : ℕ} → r ≡ NoLetter x p → headOf (NoHead x p) ≡ secondAt a s at
+  pub second-none : (a : ℕ) {x : Refusal} {p : ℕ} → r ≡ LetterRead.Refused x p → headOf (HeadRead.Refused x p) ≡ secondAt a s at
   unfolding secondAt headOf letterOf
   second-none a g = rw (← er, g)
 
-  pub first-none : {x : Refusal} {p : ℕ} → r ≡ NoLetter x p → headOf (NoHead x p) ≡ headAt s at
+  pub first-none : {x : Refusal} {p : ℕ} → r ≡ LetterRead.Refused x p → headOf (HeadRead.Refused x p) ≡ headAt s at
   unfolding headAt headOf letterOf
   first-none g = rw (← er, g)
 
@@ -48,7 +46,7 @@ module _ (s : List ℕ) (at : ℕ) {r : LetterRead} (er : letterOf r ≡ letterA
     unfolding secondAt headOf letterOf
     second-is a e h = rw (← er, g, ← e, h)
 
-    pub second-unknown : (a : ℕ) {f : Found} → f ≡ kindOf a b → f ≡ NoKind → headOf (NoHead UnknownCommand at) ≡ secondAt a s at
+    pub second-unknown : (a : ℕ) {f : Found} → f ≡ kindOf a b → f ≡ NoKind → headOf (HeadRead.Refused UnknownCommand at) ≡ secondAt a s at
     unfolding secondAt headOf letterOf
     second-unknown a e h = rw (← er, g, ← e, h)
 
@@ -56,25 +54,25 @@ module _ (s : List ℕ) (at : ℕ) {r : LetterRead} (er : letterOf r ≡ letterA
     unfolding headAt letterOf
     first-is e h j = rw (← er, g, ← e, h) j
 
-    pub first-unknown : {t : Bool} → t ≡ begins b → t ≡ false → headOf (NoHead UnknownCommand at) ≡ headAt s at
+    pub first-unknown : {t : Bool} → t ≡ begins b → t ≡ false → headOf (HeadRead.Refused UnknownCommand at) ≡ headAt s at
     unfolding headAt headOf letterOf
     first-unknown e h = rw (← er, g, ← e, h)
 
 -- ---- the body
 
-module _ (kept : Remembered) (a b : ℕ) (k : Kind) (s : List ℕ) (start room : ℕ) {r : Look} (er : lookOf r ≡ parametersAt kept (shapeOf k) s (start + 3)) where
-  pub body-broken : {x : Refusal} {p : ℕ} → r ≡ L.Broken x p → commandOf (Broken x p) ≡ told (bodyAt kept a b k s start room)
+module _ (kept : Remembered) (a b : ℕ) (k : Kind) (s : List ℕ) (start room : ℕ) {r : ParametersRead} (er : lookOf r ≡ parametersAt kept (shapeOf k) s (start + 3)) where
+  pub body-refused : {x : Refusal} {p : ℕ} → r ≡ ParametersRead.Refused x p → commandOf (CommandRead.Refused x p) ≡ told (bodyAt kept a b k s start room)
   unfolding bodyAt told commandOf lookOf
-  body-broken g = rw (← er, g)
+  body-refused g = rw (← er, g)
 
-  module _ {ps : Parameters} {w : Run} {n : ℕ} {m : Remembered} (g : r ≡ L.Whole ps w n m) where
-    pub body-short : room < w .count → commandOf (Broken TooShort start) ≡ told (bodyAt kept a b k s start room)
+  module _ {t : TakenParameters} (g : r ≡ ParametersRead.Whole t) where
+    pub body-short : room < t .run .count → commandOf (CommandRead.Refused TooShort start) ≡ told (bodyAt kept a b k s start room)
     unfolding bodyAt told commandOf lookOf
-    body-short h = rw (← er, g, lt-leb (w .count) room h)
+    body-short h = rw (← er, g, lt-leb (t .run .count) room h)
 
-    pub body-whole : w .count ≤ room → commandOf (Whole (record { first = a; second = b; parameters = ps }) (w .count) n m) ≡ told (bodyAt kept a b k s start room)
+    pub body-whole : t .run .count ≤ room → commandOf (Whole (record { command = record { first = a; second = b; parameters = t .parameters }; count = t .run .count; next = t .next; kept = t .kept })) ≡ told (bodyAt kept a b k s start room)
     unfolding bodyAt told commandOf lookOf
-    body-whole h = rw (← er, g, le-leb (w .count) room h)
+    body-whole h = rw (← er, g, le-leb (t .run .count) room h)
 
 -- the entries stand in the list where there is room for the whole command, and only there
 handed-over : (t : Bool) (m : Meaning) (start : ℕ) (l : List ℤ) → pick t (sets l 0 (m .entries)) l ≡ afterEntries (pick t (done m) (refused 7 start)) l
@@ -91,12 +89,12 @@ pub body-entries : (kept : Remembered) (a b : ℕ) (k : Kind) (s : List ℕ) (st
 unfolding bodyAt
 body-entries kept a b k s start l j = j ∙ body-after a b s start l (parametersAt kept (shapeOf k) s (start + 3))
 
-pub ruleset bodies = (body-broken, body-short, body-whole, body-entries)
+pub ruleset bodies = (body-refused, body-short, body-whole, body-entries)
 
 -- ---- the whole command
 
 module _ (kept : Remembered) (s : List ℕ) (start room : ℕ) where
-  pub past-end : length s ≤ start → commandOf (Broken BytesEnd (length s)) ≡ told (commandAt kept s start room)
+  pub past-end : length s ≤ start → commandOf (CommandRead.Refused BytesEnd (length s)) ≡ told (commandAt kept s start room)
   unfolding commandAt told commandOf
   past-end h = rw (le-ltb start (length s) h)
 
@@ -105,16 +103,16 @@ module _ (kept : Remembered) (s : List ℕ) (start room : ℕ) where
   kept-past l h = rw (le-ltb start (length s) h)
 
   module _ {r : HeadRead} (h : start < length s) (er : headOf r ≡ headAt s (start + 1)) where
-    pub head-none : {x : Refusal} {p : ℕ} → r ≡ NoHead x p → commandOf (Broken x p) ≡ told (commandAt kept s start room)
+    pub head-none : {x : Refusal} {p : ℕ} → r ≡ HeadRead.Refused x p → commandOf (CommandRead.Refused x p) ≡ told (commandAt kept s start room)
     unfolding commandAt told commandOf headOf
     head-none g = rw (lt-ltb start (length s) h, ← er, g)
 
-    pub kept-none : (l : List ℤ) {x : Refusal} {p : ℕ} → r ≡ NoHead x p → l ≡ afterEntries (commandAt kept s start room) l
+    pub kept-none : (l : List ℤ) {x : Refusal} {p : ℕ} → r ≡ HeadRead.Refused x p → l ≡ afterEntries (commandAt kept s start room) l
     unfolding commandAt afterEntries headOf
     kept-none l g = rw (lt-ltb start (length s) h, ← er, g)
 
     module _ {a b : ℕ} {k : Kind} (g : r ≡ Head a b k) where
-      pub command-is : {q : Answer Told} → q ≡ told (bodyAt kept a b k s start room) → q ≡ told (commandAt kept s start room)
+      pub command-is : {q : Answer ToldCommand} → q ≡ told (bodyAt kept a b k s start room) → q ≡ told (commandAt kept s start room)
       unfolding commandAt headOf
       command-is j = rw (lt-ltb start (length s) h, ← er, g) j
 

@@ -13,14 +13,16 @@ use Rattle.table.specs.declared.Found.{Found}
 use Rattle.table.specs.declared.Found.the-variants.{Is, NoKind}
 use Rattle.table.specs.Table.{begins, kindOf}
 use Rattle.parameters.specs.declared.Parameters.{Parameters}
-use Rattle.parameters.specs.Shapes.{Tail, Value, shapeOf, valuesOf, tailOf}
-use Rattle.parameters.specs.Looking.{Parsed, parametersAt, entriesOf}
+use Rattle.parameters.specs.declared.Tail.{Tail}
+use Rattle.parameters.specs.Shapes.{Value, shapeOf, valuesOf, tailOf}
+use Rattle.parameters.specs.Looking.{Parsed, parametersAt, parsedEntries}
+use Rattle.commands.specs.declared.TakenCommand.{TakenCommand}
 use Rattle.commands.specs.declared.CommandRead.{CommandRead}
-use Rattle.commands.specs.declared.CommandRead.the-variants.{Whole, Broken}
+use Rattle.commands.specs.declared.CommandRead.the-variants.{Whole}
 use Rattle.commands.specs.declared.LetterRead.{LetterRead}
-use Rattle.commands.specs.declared.LetterRead.the-variants.{Letter, NoLetter}
+use Rattle.commands.specs.declared.LetterRead.the-variants.{Letter}
 use Rattle.commands.specs.declared.HeadRead.{HeadRead}
-use Rattle.commands.specs.declared.HeadRead.the-variants.{Head, NoHead}
+use Rattle.commands.specs.declared.HeadRead.the-variants.{Head}
 
 -- ---- the letters
 
@@ -30,7 +32,7 @@ letterAt s at = pick (ltb at (length s)) (pick (eqb (getD s at 0) 27) (refused 6
 
 unfoldable pub letterOf : LetterRead → Answer ℕ
 letterOf (Letter b) = done b
-letterOf (NoLetter e p) = refused (numberOf e) p
+letterOf (LetterRead.Refused e p) = refused (numberOf e) p
 
 pub record Letters : Type 0 where
   pub first : ℕ
@@ -39,7 +41,7 @@ pub record Letters : Type 0 where
 
 unfoldable pub headOf : HeadRead → Answer Letters
 headOf (Head a b k) = done (record { first = a; second = b; kind = k })
-headOf (NoHead e p) = refused (numberOf e) p
+headOf (HeadRead.Refused e p) = refused (numberOf e) p
 
 abbrev pub completed : ℕ → ℕ → ℕ → Found → Answer Letters
 completed a b at (Is k) = done (record { first = a; second = b; kind = k })
@@ -72,7 +74,7 @@ meaning a b s p = record {
   values = p .values;
   tail = p .tail;
   count = p .count;
-  entries = entriesOf s p;
+  entries = parsedEntries s p;
   next = p .next;
   kept = p .kept;
 }
@@ -91,7 +93,7 @@ commandAt kept s start room =
 
 -- ---- what the answer says, and the lent list behind it
 
-pub record Told : Type 0 where
+pub record ToldCommand : Type 0 where
   pub first : ℕ
   pub second : ℕ
   pub values : List Value
@@ -101,16 +103,26 @@ pub record Told : Type 0 where
   pub kept : Remembered
 
 -- what is told of a command beside the entries in the list
-abbrev pub tell : Meaning → Told
+abbrev pub tell : Meaning → ToldCommand
 tell m = record { first = m .first; second = m .second; values = m .values; tail = m .tail; count = m .count; next = m .next; kept = m .kept }
 
-unfoldable pub told : Answer Meaning → Answer Told
+unfoldable pub told : Answer Meaning → Answer ToldCommand
 told a = then a (λ m. done (tell m))
 
-unfoldable pub commandOf : CommandRead → Answer Told
-commandOf (Whole c k n m) =
-    done (record { first = c .first; second = c .second; values = valuesOf (c .parameters); tail = tailOf (c .parameters); count = k; next = n; kept = m })
-commandOf (Broken e p) = refused (numberOf e) p
+abbrev pub tellTaken : TakenCommand → ToldCommand
+tellTaken t = record {
+  first = t .command .first;
+  second = t .command .second;
+  values = valuesOf (t .command .parameters);
+  tail = tailOf (t .command .parameters);
+  count = t .count;
+  next = t .next;
+  kept = t .kept;
+}
+
+unfoldable pub commandOf : CommandRead → Answer ToldCommand
+commandOf (Whole t) = done (tellTaken t)
+commandOf (CommandRead.Refused e p) = refused (numberOf e) p
 
 -- "Beyond the result a lent list .. is unchanged"
 unfoldable pub afterEntries : Answer Meaning → List ℤ → List ℤ

@@ -4,8 +4,8 @@ ghost use lib.ListN.{length};
 ghost use Rattle.commands.specs.Reading.{letterOf, letterAt, headOf, secondAt, headAt, bodyAt, commandOf, commandAt, told, afterEntries};
 ghost use Prim.Native.Nat.{_<_, _≤_};
 use memory::Remembered;
-use parameters::Look;
 use parameters::Parameters;
+use parameters::ParametersRead;
 use refusals::Refusal;
 use table::Found;
 use table::Kind;
@@ -16,22 +16,29 @@ pub struct Command {
     pub parameters: Parameters,
 }
 
+// A command that was read, how many entries the list now has at its front, where reading goes on, and what is then remembered.
+pub struct TakenCommand {
+    pub command: Command,
+    pub count: usize,
+    pub next: usize,
+    pub kept: Remembered,
+}
+
 pub enum CommandRead {
-    // the command, how many entries the list now has at its front, where reading goes on, and what is then remembered
-    Whole(Command, usize, usize, Remembered),
+    Whole(TakenCommand),
     // the refusal and its place
-    Broken(Refusal, usize),
+    Refused(Refusal, usize),
 }
 
 enum LetterRead {
     Letter(u8),
-    NoLetter(Refusal, usize),
+    Refused(Refusal, usize),
 }
 
 enum HeadRead {
     // the letters and their kind
     Head(u8, u8, Kind),
-    NoHead(Refusal, usize),
+    Refused(Refusal, usize),
 }
 
 // An op letter. There are no pairs among the letters.
@@ -39,11 +46,11 @@ fn letter(s: &[u8], at: usize) -> LetterRead
     ensures { λ r. ⌜ letterOf r ≡ letterAt (now (s .entry)) at ⌝ }
 {
     if at >= s.len() {
-        return LetterRead::NoLetter(Refusal::BytesEnd, s.len());
+        return LetterRead::Refused(Refusal::BytesEnd, s.len());
     }
     let b = s[at];
     if b == 27 {
-        return LetterRead::NoLetter(Refusal::NewEscape, at);
+        return LetterRead::Refused(Refusal::NewEscape, at);
     }
     LetterRead::Letter(b)
 }
@@ -54,9 +61,9 @@ fn second_letter(first: u8, s: &[u8], at: usize) -> HeadRead
     match letter(s, at) {
         LetterRead::Letter(second) => match table::kind_of(first, second) {
             Found::Is(kind) => HeadRead::Head(first, second, kind),
-            Found::NoKind => HeadRead::NoHead(Refusal::UnknownCommand, at),
+            Found::NoKind => HeadRead::Refused(Refusal::UnknownCommand, at),
         },
-        LetterRead::NoLetter(e, p) => HeadRead::NoHead(e, p),
+        LetterRead::Refused(e, p) => HeadRead::Refused(e, p),
     }
 }
 
@@ -71,9 +78,9 @@ fn head(s: &[u8], at: usize) -> HeadRead
                 let next = at + 1;
                 return second_letter(first, s, next);
             }
-            HeadRead::NoHead(Refusal::UnknownCommand, at)
+            HeadRead::Refused(Refusal::UnknownCommand, at)
         }
-        LetterRead::NoLetter(e, p) => HeadRead::NoHead(e, p),
+        LetterRead::Refused(e, p) => HeadRead::Refused(e, p),
     }
 }
 
@@ -93,19 +100,28 @@ fn body(
     let from = start + 3;
     let room = list.len();
     match parameters::look_at(kept, kind, s, from, list) {
-        Look::Whole(ps, run, n, after) => {
+        ParametersRead::Whole(taken) => {
+            let run = taken.run;
             let count = run.count;
             if count > room {
-                return CommandRead::Broken(Refusal::TooShort, start);
+                return CommandRead::Refused(Refusal::TooShort, start);
             }
+            let parameters = taken.parameters;
             let command = Command {
                 first: first,
                 second: second,
-                parameters: ps,
+                parameters: parameters,
             };
-            CommandRead::Whole(command, count, n, after)
+            let after = taken.kept;
+            let whole = TakenCommand {
+                command: command,
+                count: count,
+                next: taken.next,
+                kept: after,
+            };
+            CommandRead::Whole(whole)
         }
-        Look::Broken(e, p) => CommandRead::Broken(e, p),
+        ParametersRead::Refused(e, p) => CommandRead::Refused(e, p),
     }
 }
 
@@ -114,11 +130,11 @@ pub fn read_command(kept: Remembered, s: &[u8], start: usize, list: &mut [i32]) 
     ensures { λ r. ⌜ (commandOf r ≡ told (commandAt kept (now (s .entry)) start (length (now (list .entry))))) × (now (list .exit) ≡ afterEntries (commandAt kept (now (s .entry)) start (length (now (list .entry)))) (now (list .entry))) ⌝ }
 {
     if start >= s.len() {
-        return CommandRead::Broken(Refusal::BytesEnd, s.len());
+        return CommandRead::Refused(Refusal::BytesEnd, s.len());
     }
     let letters = start + 1;
     match head(s, letters) {
         HeadRead::Head(first, second, kind) => body(kept, first, second, kind, s, start, list),
-        HeadRead::NoHead(e, p) => CommandRead::Broken(e, p),
+        HeadRead::Refused(e, p) => CommandRead::Refused(e, p),
     }
 }

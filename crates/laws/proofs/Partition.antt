@@ -17,15 +17,15 @@ use Rattle.commands.specs.Reading.{Meaning, commandAt}
 use Rattle.laws.specs.Laws.{Onward, Parted}
 use Rattle.laws.proofs.Shortest.{command-shown}
 use Rattle.laws.proofs.Places.{command-refused, after-inside}
-use Rattle.stream.specs.Items.{Itemed, nothing, text, command, trouble, unread, passed, passedFrom, asItem, commandItem, itemAt}
+use Rattle.stream.specs.Items.{Itemed, nothing, text, command, refusedCommand, refusedCall, passed, passedFrom, asItem, commandItem, itemAt}
 
 -- where the item that starts at start ends, and that the point it hands on is inside; what makes no item is 7
 unfoldable pub Ends : List ℕ → ℕ → Itemed Meaning → Type 0
 Ends s start nothing = ⊥
 Ends s start (text b n) = (start < n) × (n ≤ length s)
 Ends s start (command m) = ((start < m .next) × (m .next ≤ length s)) × (inside (m .kept .point) ≡ true)
-Ends s start (trouble e p n k) = ((start < n) × (n ≤ length s)) × (inside (k .point) ≡ true)
-Ends s start (unread e p) = e ≡ 7
+Ends s start (refusedCommand e p n k) = ((start < n) × (n ≤ length s)) × (inside (k .point) ≡ true)
+Ends s start (refusedCall e p) = e ≡ 7
 
 passed-most : (l : List ℕ) → passed l ≤ length l
 passed-most [] = omega arith
@@ -65,8 +65,8 @@ unfolding Onward Ends
 onward s room k kept start j h rest nothing e = absurd e
 onward s room k kept start j h rest (text b n) e = (e, rest kept n j (omega (arith, e .0, h)) (e .1))
 onward s room k kept start j h rest (command m) e = (e .0, rest (m .kept) (m .next) (e .1) (omega (arith, e .0 .0, h)) (e .0 .1))
-onward s room k kept start j h rest (trouble x p n m) e = (e .0, rest m n (e .1) (omega (arith, e .0 .0, h)) (e .0 .1))
-onward s room k kept start j h rest (unread x p) e = e
+onward s room k kept start j h rest (refusedCommand x p n m) e = (e .0, rest m n (e .1) (omega (arith, e .0 .0, h)) (e .0 .1))
+onward s room k kept start j h rest (refusedCall x p) e = e
 
 none-left : (kept : Remembered) (s : List ℕ) (start room : ℕ) → inside (kept .point) ≡ true → start ≡ length s → itemAt kept s start room ≡ nothing
 unfolding itemAt

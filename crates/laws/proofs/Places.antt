@@ -15,10 +15,11 @@ use Rattle.memory.specs.Memory.{inside}
 use Rattle.refusals.specs.Answers.{Answer, done, refused, Read, then, pick, endsAfter, every}
 use Rattle.refusals.proofs.Cases.{by-pick, done-of, and-left, and-right, Ranged, ranged-done, ranged-refused, farther, ranged-then, ranged-to}
 use Rattle.wire.specs.Taking.{byteAt}
-use Rattle.wire.specs.Taking.{pairAt as escPairAt}
+use Rattle.wire.specs.Taking.{pairAt}
 use Rattle.wire.proofs.Feeds.{Took, took}
 use Rattle.signs.specs.Signs.{isNegative}
-use Rattle.numbers.specs.Integers.{integerFrom, integerAt, inRange, limit}
+use Rattle.signs.specs.Signs.{mostMagnitude}
+use Rattle.numbers.specs.Integers.{integerFrom, integerAt, inRange}
 use Rattle.numbers.specs.Counts.{asCount, countIn, countAt}
 use Rattle.points.specs.declared.PointBytes.{PointBytes}
 use Rattle.points.specs.Layout.{bytesOf}
@@ -28,9 +29,11 @@ use Rattle.table.specs.declared.Found.the-variants.{Is, NoKind}
 use Rattle.table.specs.Table.{kindOf, begins}
 use Rattle.parameters.specs.declared.Entry.{Entry}
 use Rattle.parameters.specs.declared.Entry.the-variants.{AnInteger, ACharacter}
-use Rattle.parameters.specs.Entries.{entryAt, asEntry, Held, runAt}
-use Rattle.parameters.specs.Shapes.{Part, single, real, point, Tail, none, counted, Value, shapeOf}
-use Rattle.parameters.specs.Looking.{Pair, pairAt, Fixed, partAt, fixedAt, tailAt, Parsed, parametersAt}
+use Rattle.parameters.specs.Entries.{entryAt, asEntry, CountedRun, runAt}
+use Rattle.parameters.specs.declared.Tail.{Tail}
+use Rattle.parameters.specs.declared.Tail.the-variants.{NoList, ListOf}
+use Rattle.parameters.specs.Shapes.{Part, single, real, point, Value, shapeOf}
+use Rattle.parameters.specs.Looking.{TwoEntries, twoEntriesAt, Fixed, partAt, fixedAt, tailAt, Parsed, parametersAt}
 use Rattle.points.specs.Reading.{byKind, notAllowed, endsAt, loX, lastAt, afterLoY, afterUpper, afterHiY, pointFrom, pointAt}
 use Rattle.commands.specs.Reading.{letterAt, Letters, completed, secondAt, headAt, Meaning, bodyAt, commandAt}
 use Rattle.writable.specs.Writable.{isValue, areValues}
@@ -45,7 +48,7 @@ onward r = r .next
 module _ (kept : Remembered) (s : List ℕ) where
   -- a byte that is taken lies behind at, one that is refused at it or at the end
   byte-ranged : (at : ℕ) → at ≤ length s → Ranged onward at (length s) (byteAt kept s at)
-  unfolding byteAt escPairAt
+  unfolding byteAt pairAt
   byte-ranged at h =
       by-pick P (ltb at (length s)) _ _
       (λ t.
@@ -71,7 +74,7 @@ module _ (kept : Remembered) (s : List ℕ) where
 
   in-range : (at m : ℕ) (t : Bool) (p n : ℕ) → at ≤ p → p < n → n ≤ length s → Ranged onward at (length s) (inRange m t p n)
   in-range at m t p n h g w =
-      by-pick (Ranged onward at (length s)) (leb m (limit t)) _ _
+      by-pick (Ranged onward at (length s)) (leb m (mostMagnitude t)) _ _
       (λ u. ranged-done onward at (length s) _ (omega arith) w)
       (λ u. ranged-refused onward at (length s) 4 p h (omega arith))
 
@@ -97,7 +100,7 @@ module _ (kept : Remembered) (s : List ℕ) where
   in-placed : (at m : ℕ) (t : Bool) (p n : ℕ) → at ≤ p → p ≤ length s → Placed at (inRange m t p n)
   unfolding Placed
   in-placed at m t p n h w =
-      by-pick (Ranged (λ (r : Read ℤ). r .place) at (length s)) (leb m (limit t)) _ _
+      by-pick (Ranged (λ (r : Read ℤ). r .place) at (length s)) (leb m (mostMagnitude t)) _ _
       (λ u. ranged-done (λ (r : Read ℤ). r .place) at (length s) _ h w)
       (λ u. ranged-refused (λ (r : Read ℤ). r .place) at (length s) 4 p h w)
 
@@ -207,13 +210,13 @@ module _ (kept : Remembered) (s : List ℕ) where
       ranged-then onward itself at (length s) (entryAt e kept s at) _ (entry-ranged e at i)
       (λ r q f w. farther itself at (r .next) (length s) _ f (entries-ranged e k (r .next) w))
 
-  abbrev heldNext : Held → ℕ
+  abbrev heldNext : CountedRun → ℕ
   heldNext h = h .next
 
   tail-ranged : (t : Tail) (at : ℕ) → at ≤ length s → Ranged heldNext at (length s) (tailAt kept t s at)
   unfolding tailAt runAt
-  tail-ranged none at i = ranged-done heldNext at (length s) _ (omega arith) i
-  tail-ranged (counted e) at i =
+  tail-ranged NoList at i = ranged-done heldNext at (length s) _ (omega arith) i
+  tail-ranged (ListOf e) at i =
       ranged-then onward heldNext at (length s) (countAt kept s at) _ (count-ranged at i)
       (λ c q f w. farther heldNext at (c .next) (length s) _ f
       (ranged-then itself heldNext (c .next) (length s) (endsAfter (entryAt e kept s) (c .value) (c .next)) _ (entries-ranged e (c .value) (c .next) w)
@@ -223,15 +226,15 @@ module _ (kept : Remembered) (s : List ℕ) where
   fixedNext f = f .next
 
   part-ranged : (p : Part) (at : ℕ) → inside (kept .point) ≡ true → at ≤ length s → Ranged fixedNext at (length s) (partAt kept p s at)
-  unfolding partAt pairAt
+  unfolding partAt twoEntriesAt
   part-ranged (single e) at j i =
       ranged-then onward fixedNext at (length s) (entryAt e kept s at) _ (entry-ranged e at i) (λ r q f w. ranged-done fixedNext at (length s) _ f w)
   part-ranged real at j i =
-      ranged-then (λ (r : Pair). r .next) fixedNext at (length s) _ _
-      (ranged-then onward (λ (r : Pair). r .next) at (length s) (entryAt AnInteger kept s at) _ (entry-ranged AnInteger at i)
-      (λ a q f w. farther (λ (r : Pair). r .next) at (a .next) (length s) _ f
-      (ranged-then onward (λ (r : Pair). r .next) (a .next) (length s) (entryAt AnInteger kept s (a .next)) _ (entry-ranged AnInteger (a .next) w)
-      (λ b x y z. ranged-done (λ (r : Pair). r .next) (a .next) (length s) _ y z))))
+      ranged-then (λ (r : TwoEntries). r .next) fixedNext at (length s) _ _
+      (ranged-then onward (λ (r : TwoEntries). r .next) at (length s) (entryAt AnInteger kept s at) _ (entry-ranged AnInteger at i)
+      (λ a q f w. farther (λ (r : TwoEntries). r .next) at (a .next) (length s) _ f
+      (ranged-then onward (λ (r : TwoEntries). r .next) (a .next) (length s) (entryAt AnInteger kept s (a .next)) _ (entry-ranged AnInteger (a .next) w)
+      (λ b x y z. ranged-done (λ (r : TwoEntries). r .next) (a .next) (length s) _ y z))))
       (λ r q f w. ranged-done fixedNext at (length s) _ f w)
   part-ranged point at j i =
       ranged-then onward fixedNext at (length s) (pointAt kept s at) _ (point-ranged at j i) (λ r q f w. ranged-done fixedNext at (length s) _ f w)
@@ -261,7 +264,7 @@ unfolding parametersAt
 parameters-ranged kept k s at j i =
     ranged-then (λ (f : Fixed). f .next) (λ (p : Parsed). p .next) at (length s) (fixedAt kept (shapeOf k .fixed) s at) _ (fixed-ranged kept (shapeOf k .fixed) s at j i)
     (λ f e x w. farther (λ (p : Parsed). p .next) at (f .next) (length s) _ x
-    (ranged-then (λ (h : Held). h .next) (λ (p : Parsed). p .next) (f .next) (length s) (tailAt (f .kept) (shapeOf k .tail) s (f .next)) _ (tail-ranged (f .kept) s (shapeOf k .tail) (f .next) w)
+    (ranged-then (λ (h : CountedRun). h .next) (λ (p : Parsed). p .next) (f .next) (length s) (tailAt (f .kept) (shapeOf k .tail) s (f .next)) _ (tail-ranged (f .kept) s (shapeOf k .tail) (f .next) w)
     (λ h q y z. ranged-done (λ (p : Parsed). p .next) (f .next) (length s) _ y z)))
 
 -- ---- the whole command

@@ -14,9 +14,10 @@ use Rattle.memory.specs.Memory.{inside}
 use Rattle.refusals.specs.Answers.{Answer, done, refused, Read, then, pick, endsAfter}
 use Rattle.refusals.proofs.Cases.{by-pick, done-of, zero-one}
 use Rattle.wire.specs.Taking.{byteAt}
-use Rattle.wire.specs.Taking.{pairAt as escPairAt}
+use Rattle.wire.specs.Taking.{pairAt}
 use Rattle.signs.specs.Signs.{isNegative}
-use Rattle.numbers.specs.Integers.{integerFrom, integerAt, inRange, limit}
+use Rattle.signs.specs.Signs.{mostMagnitude}
+use Rattle.numbers.specs.Integers.{integerFrom, integerAt, inRange}
 use Rattle.ranges.specs.Ranges.{mostEntries}
 use Rattle.numbers.specs.Counts.{countIn, countAt}
 use Rattle.points.specs.declared.PointBytes.{PointBytes}
@@ -27,11 +28,13 @@ use Rattle.table.specs.declared.Found.the-variants.{Is, NoKind}
 use Rattle.table.specs.Table.{kindOf, begins}
 use Rattle.parameters.specs.declared.Entry.{Entry}
 use Rattle.parameters.specs.declared.Entry.the-variants.{AnInteger, ACharacter}
-use Rattle.parameters.specs.Entries.{entryAt, asEntry, Held, runAt}
-use Rattle.parameters.specs.Shapes.{Part, single, real, point, Tail, none, counted, Shape, shapeOf}
-use Rattle.parameters.specs.Looking.{pairAt, Fixed, partAt, fixedAt, tailAt, Parsed, parametersAt}
+use Rattle.parameters.specs.Entries.{entryAt, asEntry, CountedRun, runAt}
+use Rattle.parameters.specs.declared.Tail.{Tail}
+use Rattle.parameters.specs.declared.Tail.the-variants.{NoList, ListOf}
+use Rattle.parameters.specs.Shapes.{Part, single, real, point, Shape, shapeOf}
+use Rattle.parameters.specs.Looking.{twoEntriesAt, Fixed, partAt, fixedAt, tailAt, Parsed, parametersAt}
 use Rattle.commands.specs.Reading.{letterAt, Letters, completed, secondAt, headAt, Meaning, bodyAt, commandAt}
-use Rattle.stream.specs.Items.{Itemed, nothing, text, command, trouble, unread, asItem, commandItem, itemAt}
+use Rattle.stream.specs.Items.{Itemed, nothing, text, command, refusedCommand, refusedCall, asItem, commandItem, itemAt}
 use Rattle.laws.proofs.Shortest.{FixedShown, part-good}
 use Rattle.laws.proofs.Places.{after-inside}
 
@@ -59,7 +62,7 @@ low P e p h = h
 
 module _ (kept : Remembered) (s : List ℕ) where
   byte-early : (at : ℕ) → Early Any (byteAt kept s at)
-  unfolding byteAt escPairAt
+  unfolding byteAt pairAt
   byte-early at =
       by-pick P (ltb at (length s)) _ _
       (λ t. by-pick P (eqb (getD s at 0) 27) _ _
@@ -73,7 +76,7 @@ module _ (kept : Remembered) (s : List ℕ) where
       P = Early Any
 
   in-range : (m : ℕ) (t : Bool) (p n : ℕ) → Early Any (inRange m t p n)
-  in-range m t p n = by-pick (Early Any) (leb m (limit t)) _ _ (λ u. early Any _ tt) (λ u. low Any 4 p (omega arith))
+  in-range m t p n = by-pick (Early Any) (leb m (mostMagnitude t)) _ _ (λ u. early Any _ tt) (λ u. low Any 4 p (omega arith))
 
   integer-early : (k h at : ℕ) → Early Any (integerFrom kept k h s at)
   unfolding integerFrom
@@ -142,18 +145,18 @@ module _ (kept : Remembered) (s : List ℕ) where
   entries-early e zero at = early Any at tt
   entries-early e (suc k) at = early-then Any Any (entryAt e kept s at) _ (entry-early e at) (λ r q x. entries-early e k (r .next))
 
-  abbrev FewHeld : Held → Type 0
+  abbrev FewHeld : CountedRun → Type 0
   FewHeld h = h .count ≤ 256
 
   tail-early : (t : Tail) (at : ℕ) → Early FewHeld (tailAt kept t s at)
   unfolding tailAt runAt
-  tail-early none at = early FewHeld _ (omega arith)
-  tail-early (counted e) at =
+  tail-early NoList at = early FewHeld _ (omega arith)
+  tail-early (ListOf e) at =
       early-then Few FewHeld (countAt kept s at) _ (count-early at)
       (λ c q h. early-then Any FewHeld (endsAfter (entryAt e kept s) (c .value) (c .next)) _ (entries-early e (c .value) (c .next)) (λ n x y. early FewHeld _ h))
 
   part-early : (p : Part) (at : ℕ) → inside (kept .point) ≡ true → Early Any (partAt kept p s at)
-  unfolding partAt pairAt
+  unfolding partAt twoEntriesAt
   part-early (single e) at j = early-then Any Any (entryAt e kept s at) _ (entry-early e at) (λ r q x. early Any _ tt)
   part-early real at j =
       early-then Any Any _ _
@@ -217,15 +220,15 @@ module _ (kept : Remembered) (s : List ℕ) (start room : ℕ) (j : inside (kept
   AsRead nothing = Unit {0}
   AsRead (text b n) = Unit {0}
   AsRead (command m) = Unit {0}
-  AsRead (trouble e p n k) = Unit {0}
-  AsRead (unread e p) = ⊥
+  AsRead (refusedCommand e p n k) = Unit {0}
+  AsRead (refusedCall e p) = ⊥
 
   item-read : (a : Answer Meaning) → Early Any a → AsRead (asItem kept s a)
   unfolding Early AsRead
   item-read (done m) e = tt
   item-read (refused e p) q = by-pick AsRead (eqb e 7) _ _ (λ t. let z : e ≡ 7 = eqb-true e 7 t in omega (arith, z, q)) (λ t. tt)
 
-  pub always-read : start ≤ length s → {e p : ℕ} → itemAt kept s start room ≡ unread e p → ⊥
+  pub always-read : start ≤ length s → {e p : ℕ} → itemAt kept s start room ≡ refusedCall e p → ⊥
   unfolding itemAt commandItem AsRead
   always-read l g = subst AsRead g
       (rw (le-ltb (length s) start l, j)

@@ -28,14 +28,16 @@ use Rattle.table.specs.declared.Kind.{Kind}
 use Rattle.table.specs.declared.Kind.the-variants as K
 use Rattle.table.specs.declared.Found.{Found}
 use Rattle.table.specs.declared.Found.the-variants.{Is, NoKind}
-use Rattle.table.specs.Table.{Row, table, kindIn, kindOf, beginsIn, begins}
+use Rattle.table.specs.Table.{TableRow, table, kindIn, kindOf, beginsIn, begins}
 use Rattle.parameters.specs.declared.Entry.{Entry}
 use Rattle.parameters.specs.declared.Entry.the-variants.{AnInteger, ACharacter}
 use Rattle.parameters.specs.declared.Parameters.{Parameters}
-use Rattle.parameters.specs.declared.Parameters.the-variants.{Single, Double, Triple, OnePoint, Corners, Scale, Letters, Text, Array, NumberedText, NumberedArray}
-use Rattle.parameters.specs.Entries.{entryAt, entriesFrom, Held, runAt}
-use Rattle.parameters.specs.Shapes.{Part, single, real, point, Tail, none, counted, Value, number, scaled, place, shapeOf, valuesOf, tailOf}
-use Rattle.parameters.specs.Looking.{pairAt, partAt, fixedAt, tailAt, Parsed, parametersAt, entryIn}
+use Rattle.parameters.specs.declared.Parameters.the-variants.{OneInteger, TwoIntegers, ThreeIntegers, OnePoint, TwoPoints, AReal, TwoCharacters, AString, AnArray, IntegerThenString, IntegerThenArray}
+use Rattle.parameters.specs.Entries.{entryAt, entryValues, CountedRun, runAt}
+use Rattle.parameters.specs.declared.Tail.{Tail}
+use Rattle.parameters.specs.declared.Tail.the-variants.{NoList, ListOf}
+use Rattle.parameters.specs.Shapes.{Part, single, real, point, Value, number, scaled, place, shapeOf, valuesOf, tailOf}
+use Rattle.parameters.specs.Looking.{twoEntriesAt, partAt, fixedAt, tailAt, Parsed, parametersAt, entryIn}
 use Rattle.commands.specs.declared.Command.{Command}
 use Rattle.commands.specs.Reading.{letterAt, secondAt, headAt, Meaning, meaning, bodyAt, commandAt}
 use Rattle.writable.specs.Writable.{kindFor, kindNumber, sameKind, isKind, isEntry, areEntries, isValue, areValues, isTail, fits, isCommand}
@@ -90,7 +92,7 @@ still-inside kept (place p) i ok = ok
 
 module _ (s : List ℕ) where
   value-back : (kept : Remembered) (v : Value) (at : ℕ) → inside (kept .point) ≡ true → isValue v ≡ true → Stands s at (spellValue kept v) → partAt kept (partOf v) s at ≡ done (record { values = v ∷ []; next = at + length (spellValue kept v); kept = afterValue kept v })
-  unfolding partAt pairAt entryAt spellEntry
+  unfolding partAt twoEntriesAt entryAt spellEntry
   value-back kept (number e v) at i ok st =
       let (r, (er, (ev, en))) = got (entryAt e kept s at) v (at + length (spellEntry e kept v)) (entry-back e kept s at v ok st) in
       rw (er, ev, en)
@@ -123,22 +125,22 @@ module _ (s : List ℕ) where
   -- ---- the list behind them
 
   record TailBack (kept : Remembered) (t : Tail) (es : List ℤ) (at : ℕ) : Type 0 where
-    held : Held
+    held : CountedRun
     reads : tailAt kept t s at ≡ done held
     number-is : held .count ≡ length (carried t es)
     next-is : held .next ≡ at + length (spellTail kept t es)
-    entries-are : entriesFrom (entryIn t) kept (held .count) s (held .start) ≡ carried t es
+    entries-are : entryValues (entryIn t) kept (held .count) s (held .start) ≡ carried t es
 
   tail-back : (kept : Remembered) (t : Tail) (es : List ℤ) (at : ℕ) → isTail t es ≡ true → Stands s at (spellTail kept t es) → TailBack kept t es at
   unfolding tailAt spellTail isTail runAt allAfter
-  tail-back kept none es at ok st = record {
+  tail-back kept NoList es at ok st = record {
     held = record { start = 0; count = 0; next = at };
     reads = refl;
     number-is = refl;
     next-is = omega arith;
     entries-are = refl;
   }
-  tail-back kept (counted e) es at ok st =
+  tail-back kept (ListOf e) es at ok st =
       let w = sent kept (spell (pos (length es))) in
       let rest = spellEntries e kept es in
       let few = leb-true (length es) 256 (and-left (leb (length es) 256) (areEntries e es) ok) in
@@ -156,28 +158,28 @@ module _ (s : List ℕ) where
 -- ---- letters and kinds
 
 pub shape-is : (ps : Parameters) → shapeOf (kindFor ps) ≡ record { fixed = map partOf (valuesOf ps); tail = tailOf ps }
-shape-is (Single a) = refl
-shape-is (Double a b) = refl
-shape-is (Triple a b c) = refl
+shape-is (OneInteger a) = refl
+shape-is (TwoIntegers a b) = refl
+shape-is (ThreeIntegers a b c) = refl
 shape-is (OnePoint p) = refl
-shape-is (Corners p q) = refl
-shape-is (Scale r) = refl
-shape-is (Letters a b) = refl
-shape-is Text = refl
-shape-is Array = refl
-shape-is (NumberedText a) = refl
-shape-is (NumberedArray a) = refl
+shape-is (TwoPoints p q) = refl
+shape-is (AReal r) = refl
+shape-is (TwoCharacters a b) = refl
+shape-is AString = refl
+shape-is AnArray = refl
+shape-is (IntegerThenString a) = refl
+shape-is (IntegerThenArray a) = refl
 
 kindNamed : ℕ → Kind
 kindNamed n =
-    getD (K.AnInteger ∷ K.AnInteger ∷ K.TwoIntegers ∷ K.ThreeIntegers ∷ K.APoint ∷ K.TwoPoints ∷ K.AReal ∷ K.AString ∷ K.AnArray ∷ K.IntegerThenArray ∷ K.IntegerThenString ∷ K.TwoCharacters ∷ []) n K.AnInteger
+    getD (K.OneInteger ∷ K.OneInteger ∷ K.TwoIntegers ∷ K.ThreeIntegers ∷ K.OnePoint ∷ K.TwoPoints ∷ K.AReal ∷ K.AString ∷ K.AnArray ∷ K.IntegerThenArray ∷ K.IntegerThenString ∷ K.TwoCharacters ∷ []) n K.OneInteger
 
 kind-back : (k : Kind) → kindNamed (kindNumber k) ≡ k
 unfolding kindNamed
-kind-back K.AnInteger = refl
+kind-back K.OneInteger = refl
 kind-back K.TwoIntegers = refl
 kind-back K.ThreeIntegers = refl
-kind-back K.APoint = refl
+kind-back K.OnePoint = refl
 kind-back K.TwoPoints = refl
 kind-back K.AReal = refl
 kind-back K.AString = refl
@@ -198,7 +200,7 @@ letters-kind a b ps = by (kindOf a b)
     by NoKind e = let z : _≡_ {A = ℕ} 0 1 = cc in absurd (zero-one z)
 
 -- letters that a command has begin one
-found-begins : (rows : List Row) (a b : ℕ) {k : Kind} → kindIn rows a b ≡ Is k → beginsIn rows a ≡ true
+found-begins : (rows : List TableRow) (a b : ℕ) {k : Kind} → kindIn rows a b ≡ Is k → beginsIn rows a ≡ true
 found-begins [] a b e = let z : _≡_ {A = ℕ} 0 1 = cc in absurd (zero-one z)
 found-begins (r ∷ rs) a b {k} e = by (eqb a (r .first)) (eqb b (r .second)) (λ g. found-begins rs a b g) e
   where

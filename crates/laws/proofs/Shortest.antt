@@ -31,9 +31,11 @@ use Rattle.table.specs.declared.Found.the-variants.{Is, NoKind}
 use Rattle.table.specs.Table.{kindOf, begins}
 use Rattle.parameters.specs.declared.Entry.{Entry}
 use Rattle.parameters.specs.declared.Entry.the-variants.{AnInteger, ACharacter}
-use Rattle.parameters.specs.Entries.{entryAt, asEntry, entriesFrom, Held, runAt}
-use Rattle.parameters.specs.Shapes.{Part, single, real, point, Tail, none, counted, Shape, Value, number, scaled, place, shapeOf, valuesOf, tailOf}
-use Rattle.parameters.specs.Looking.{Pair, pairAt, Fixed, partAt, fixedAt, tailAt, Parsed, parametersAt, entryIn, entriesOf}
+use Rattle.parameters.specs.Entries.{entryAt, asEntry, entryValues, CountedRun, runAt}
+use Rattle.parameters.specs.declared.Tail.{Tail}
+use Rattle.parameters.specs.declared.Tail.the-variants.{NoList, ListOf}
+use Rattle.parameters.specs.Shapes.{Part, single, real, point, Shape, Value, number, scaled, place, shapeOf, valuesOf, tailOf}
+use Rattle.parameters.specs.Looking.{TwoEntries, twoEntriesAt, Fixed, partAt, fixedAt, tailAt, Parsed, parametersAt, entryIn, parsedEntries}
 use Rattle.commands.specs.declared.Command.{Command}
 use Rattle.commands.specs.Reading.{letterAt, Letters, completed, secondAt, headAt, Meaning, meaning, bodyAt, commandAt}
 use Rattle.writable.specs.Writable.{kindFor, kindNumber, isKind, isEntry, areEntries, isValue, areValues, isTail, fits, isCommand}
@@ -123,26 +125,26 @@ alone kept v s at n ok h w = record {
 }
 
 -- two integers
-record PairShown (kept : Remembered) (s : List ℕ) (at : ℕ) (r : Pair) : Type 0 where
+record TwoEntriesShown (kept : Remembered) (s : List ℕ) (at : ℕ) (r : TwoEntries) : Type 0 where
   ok : isInteger (r .one) && isInteger (r .two) ≡ true
   short : at + length (sent kept (spell (r .one)) ++ sent kept (spell (r .two))) ≤ r .next
   inside-of : r .next ≤ length s
 
-pair-good : (kept : Remembered) (s : List ℕ) (at : ℕ) → Done (PairShown kept s at) (pairAt AnInteger kept s at)
-unfolding pairAt spellEntry
-pair-good kept s at =
-    by-then (Done (PairShown kept s at)) (entryAt AnInteger kept s at) _
-    (λ a g. by-then (Done (PairShown kept s at)) (entryAt AnInteger kept s (a .next)) _
+two-entries-good : (kept : Remembered) (s : List ℕ) (at : ℕ) → Done (TwoEntriesShown kept s at) (twoEntriesAt AnInteger kept s at)
+unfolding twoEntriesAt spellEntry
+two-entries-good kept s at =
+    by-then (Done (TwoEntriesShown kept s at)) (entryAt AnInteger kept s at) _
+    (λ a g. by-then (Done (TwoEntriesShown kept s at)) (entryAt AnInteger kept s (a .next)) _
     (λ b h.
     let f = entry-good AnInteger kept s at a g in
     let q = entry-good AnInteger kept s (a .next) b h in
-    is-done (PairShown kept s at) (record {
+    is-done (TwoEntriesShown kept s at) (record {
       ok = rw (f .writable, q .writable);
       short = omega (arith, f .shortest, q .shortest, length-append (sent kept (spell (a .value))) (sent kept (spell (b .value))));
       inside-of = q .within;
     }))
-    (λ x p h. not-done (PairShown kept s at) x p))
-    (λ x p g. not-done (PairShown kept s at) x p)
+    (λ x p h. not-done (TwoEntriesShown kept s at) x p))
+    (λ x p g. not-done (TwoEntriesShown kept s at) x p)
 
 pub part-good : (kept : Remembered) (p : Part) (s : List ℕ) (at : ℕ) → Done (FixedShown kept (p ∷ []) s at) (partAt kept p s at)
 unfolding partAt
@@ -153,9 +155,9 @@ part-good kept (single e) s at =
     is-done (FixedShown kept (single e ∷ []) s at) (alone kept (number e (r .value)) s at (r .next) (f .writable) (f .shortest) (f .within)))
     (λ x q g. not-done (FixedShown kept (single e ∷ []) s at) x q)
 part-good kept real s at =
-    by-then (Done (FixedShown kept (real ∷ []) s at)) (pairAt AnInteger kept s at) _
+    by-then (Done (FixedShown kept (real ∷ []) s at)) (twoEntriesAt AnInteger kept s at) _
     (λ r g.
-    let f = done-of (PairShown kept s at) (pair-good kept s at) g in
+    let f = done-of (TwoEntriesShown kept s at) (two-entries-good kept s at) g in
     is-done (FixedShown kept (real ∷ []) s at) (alone kept (scaled (r .one) (r .two)) s at (r .next) (f .ok) (f .short) (f .inside-of)))
     (λ x q g. not-done (FixedShown kept (real ∷ []) s at) x q)
 part-good kept point s at =
@@ -217,10 +219,10 @@ fixed-good kept (p ∷ ps) s at h =
 
 -- ---- the list behind them
 
-abbrev entriesHeld : Remembered → Tail → List ℕ → Held → List ℤ
-entriesHeld kept t s h = entriesFrom (entryIn t) kept (h .count) s (h .start)
+abbrev entriesHeld : Remembered → Tail → List ℕ → CountedRun → List ℤ
+entriesHeld kept t s h = entryValues (entryIn t) kept (h .count) s (h .start)
 
-pub record TailShown (kept : Remembered) (t : Tail) (s : List ℕ) (at : ℕ) (h : Held) : Type 0 where
+pub record TailShown (kept : Remembered) (t : Tail) (s : List ℕ) (at : ℕ) (h : CountedRun) : Type 0 where
   pub writable : isTail t (entriesHeld kept t s h) ≡ true
   pub number-is : length (entriesHeld kept t s h) ≡ h .count
   pub shortest : at + length (spellTail kept t (entriesHeld kept t s h)) ≤ h .next
@@ -229,26 +231,26 @@ pub record TailShown (kept : Remembered) (t : Tail) (s : List ℕ) (at : ℕ) (h
 
 tail-good : (kept : Remembered) (t : Tail) (s : List ℕ) (at : ℕ) → at ≤ length s → Done (TailShown kept t s at) (tailAt kept t s at)
 unfolding tailAt runAt isTail spellTail allAfter
-tail-good kept none s at h =
-    is-done (TailShown kept none s at) (record { writable = refl; number-is = refl; shortest = omega arith; forward = omega arith; within = h })
-tail-good kept (counted e) s at h =
-    by-then (Done (TailShown kept (counted e) s at)) (countAt kept s at) _
+tail-good kept NoList s at h =
+    is-done (TailShown kept NoList s at) (record { writable = refl; number-is = refl; shortest = omega arith; forward = omega arith; within = h })
+tail-good kept (ListOf e) s at h =
+    by-then (Done (TailShown kept (ListOf e) s at)) (countAt kept s at) _
     (λ c g.
     let f = count-shown kept s at g in
-    by-then (Done (TailShown kept (counted e) s at)) (endsAfter (entryAt e kept s) (c .value) (c .next)) _
+    by-then (Done (TailShown kept (ListOf e) s at)) (endsAfter (entryAt e kept s) (c .value) (c .next)) _
     (λ n q.
     let r = done-of (RunShown e kept s (c .value) (c .next)) (run-good e kept s (c .value) (c .next) (f .within)) q in
     let es = allAfter (entryAt e kept s) (c .value) (c .next) in
     let w = sent kept (spell (pos (c .value))) in
-    is-done (TailShown kept (counted e) s at) (record {
+    is-done (TailShown kept (ListOf e) s at) (record {
       writable = rw (r .number-is, le-leb (c .value) 256 (f .writable)) (r .writable);
       number-is = r .number-is;
       shortest = rw (r .number-is) (omega (arith, f .shortest, r .shortest, length-append w (spellEntries e kept es)));
       forward = omega (arith, f .shortest, r .shortest);
       within = r .within;
     }))
-    (λ x p q. not-done (TailShown kept (counted e) s at) x p))
-    (λ x p g. not-done (TailShown kept (counted e) s at) x p)
+    (λ x p q. not-done (TailShown kept (ListOf e) s at) x p))
+    (λ x p g. not-done (TailShown kept (ListOf e) s at) x p)
 
 -- ---- the letters
 
@@ -299,14 +301,14 @@ module _ (kept : Remembered) (k : Kind) (s : List ℕ) (start : ℕ) (room : sta
   record ParsedShown (p : Parsed) : Type 0 where
     shape-ok : shapeOf k ≡ record { fixed = map partOf (p .values); tail = p .tail }
     values-good : areValues (p .values) ≡ true
-    tail-is-good : isTail (p .tail) (entriesOf s p) ≡ true
-    count-good : p .count ≡ length (entriesOf s p)
-    short : start + (3 + length (spellParameters kept (p .values) (p .tail) (entriesOf s p))) ≤ p .next
+    tail-is-good : isTail (p .tail) (parsedEntries s p) ≡ true
+    count-good : p .count ≡ length (parsedEntries s p)
+    short : start + (3 + length (spellParameters kept (p .values) (p .tail) (parsedEntries s p))) ≤ p .next
     kept-good : p .kept ≡ afterValues kept (p .values)
     on : start < p .next
     inside-of : p .next ≤ length s
 
-  joined : (f : Fixed) (h : Held) → FixedShown kept (shapeOf k .fixed) s (start + 3) f → TailShown (f .kept) (shapeOf k .tail) s (f .next) h → ParsedShown (record { values = f .values; tail = shapeOf k .tail; start = h .start; count = h .count; next = h .next; kept = f .kept })
+  joined : (f : Fixed) (h : CountedRun) → FixedShown kept (shapeOf k .fixed) s (start + 3) f → TailShown (f .kept) (shapeOf k .tail) s (f .next) h → ParsedShown (record { values = f .values; tail = shapeOf k .tail; start = h .start; count = h .count; next = h .next; kept = f .kept })
   unfolding spellParameters
   joined f h a b =
       let w = spellValues kept (f .values) in
@@ -379,9 +381,9 @@ codes [] = 0
 codes (p ∷ ps) = partCode p + 5 * codes ps
 
 tailCode : Tail → ℕ
-tailCode none = 0
-tailCode (counted AnInteger) = 1
-tailCode (counted ACharacter) = 2
+tailCode NoList = 0
+tailCode (ListOf AnInteger) = 1
+tailCode (ListOf ACharacter) = 2
 
 -- a number for each shape, by which kinds of different shapes are told apart
 shapeCode : Shape → ℕ
@@ -389,10 +391,10 @@ shapeCode h = codes (h .fixed) * 3 + tailCode (h .tail)
 
 kindCoded : ℕ → Kind
 kindCoded n =
-    pick (eqb n 3) K.AnInteger
+    pick (eqb n 3) K.OneInteger
     (pick (eqb n 18) K.TwoIntegers
     (pick (eqb n 93) K.ThreeIntegers
-    (pick (eqb n 12) K.APoint
+    (pick (eqb n 12) K.OnePoint
     (pick (eqb n 72) K.TwoPoints
     (pick (eqb n 9) K.AReal
     (pick (eqb n 2) K.AString
@@ -403,10 +405,10 @@ kindCoded n =
 
 coded : (k : Kind) → kindCoded (shapeCode (shapeOf k)) ≡ k
 unfolding kindCoded shapeCode codes tailCode partCode
-coded K.AnInteger = refl
+coded K.OneInteger = refl
 coded K.TwoIntegers = refl
 coded K.ThreeIntegers = refl
-coded K.APoint = refl
+coded K.OnePoint = refl
 coded K.TwoPoints = refl
 coded K.AReal = refl
 coded K.AString = refl

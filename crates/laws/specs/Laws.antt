@@ -7,18 +7,20 @@ use lib.ListN.{length}
 use lib.IntN.{ℤ}
 use Rattle.memory.specs.declared.Remembered.{Remembered}
 use Rattle.refusals.specs.Answers.{done}
-use Rattle.parameters.specs.Shapes.{Tail, none, counted, valuesOf, tailOf}
+use Rattle.parameters.specs.declared.Tail.{Tail}
+use Rattle.parameters.specs.declared.Tail.the-variants.{NoList, ListOf}
+use Rattle.parameters.specs.Shapes.{valuesOf, tailOf}
 use Rattle.commands.specs.declared.Command.{Command}
 use Rattle.commands.specs.Reading.{Meaning, commandAt}
 use Rattle.writing.specs.Writing.{afterValues, spellCommand}
-use Rattle.stream.specs.Items.{Itemed, nothing, text, command, trouble, unread, itemAt}
+use Rattle.stream.specs.Items.{Itemed, nothing, text, command, refusedCommand, refusedCall, itemAt}
 
 -- ---- the round trip
 
 -- the entries that go with a tail
 abbrev pub carried : Tail → List ℤ → List ℤ
-carried none es = []
-carried (counted e) es = es
+carried NoList es = []
+carried (ListOf e) es = es
 
 -- the command c with its entries es was read from start on, in so much room
 pub record Back (kept : Remembered) (c : Command) (es : List ℤ) (s : List ℕ) (start room : ℕ) : Type 0 where
@@ -52,8 +54,8 @@ unfoldable pub Onward : (Remembered → ℕ → Type 0) → List ℕ → Remembe
 Onward rest s kept start nothing = start ≡ length s
 Onward rest s kept start (text b n) = ((start < n) × (n ≤ length s)) × rest kept n
 Onward rest s kept start (command m) = ((start < m .next) × (m .next ≤ length s)) × rest (m .kept) (m .next)
-Onward rest s kept start (trouble e p n k) = ((start < n) × (n ≤ length s)) × rest k n
-Onward rest s kept start (unread e p) = e ≡ 7
+Onward rest s kept start (refusedCommand e p n k) = ((start < n) × (n ≤ length s)) × rest k n
+Onward rest s kept start (refusedCall e p) = e ≡ 7
 
 -- the bytes from start on are cut into at most k items, each starting where the one before it ends, and the last ending with the bytes
 unfoldable pub Parted : List ℕ → ℕ → ℕ → Remembered → ℕ → Type 0

@@ -17,7 +17,7 @@ use Rattle.refusals.specs.Answers.{pick}
 use Rattle.signs.specs.Signs.{isNegative}
 use Rattle.refusals.proofs.Cases.{zero-one}
 use Rattle.lines.specs.Decimals.{digitsOf, decimal, field, fields}
-use Rattle.lines.specs.Pouring.{Poured}
+use Rattle.lines.specs.Pouring.{Put}
 use Rattle.lines.proofs.Pours.{poured-none, poured-both, poured-long}
 
 -- fuel enough is fuel enough
@@ -48,38 +48,38 @@ decimal-more n h =
     let e : digitsOf n (n / 10) ≡ digitsOf (suc (n / 10)) (n / 10) = same-digits n (suc (n / 10)) (n / 10) (omega arith) (omega arith) in
     rw (le-ltb n 10 h) (ap (with-last n) e)
 
-pub poured-digit : {l o : List ℕ} {at r : ℕ} (n : ℕ) → n < 10 → Poured l at ((48 + n) ∷ []) r o → Poured l at (decimal n) r o
+pub poured-digit : {l o : List ℕ} {at r : ℕ} (n : ℕ) → n < 10 → Put l at ((48 + n) ∷ []) r o → Put l at (decimal n) r o
 poured-digit n h p = rw (decimal-one n h) p
 
-pub poured-digits : {l m o : List ℕ} {at k r : ℕ} (n : ℕ) → 10 ≤ n → Poured m k ((48 + n % 10) ∷ []) r o → Poured l at (decimal (n / 10)) k m → Poured l at (decimal n) r o
+pub poured-digits : {l m o : List ℕ} {at k r : ℕ} (n : ℕ) → 10 ≤ n → Put m k ((48 + n % 10) ∷ []) r o → Put l at (decimal (n / 10)) k m → Put l at (decimal n) r o
 poured-digits n h q p = rw (decimal-more n h) (poured-both q p)
 
 pub ruleset digits = (poured-digit, poured-digits, poured-long)
 
 -- ---- a number behind a blank
 
-module _ {l m o : List ℕ} {at k r : ℕ} (blank : Poured l at (32 ∷ []) k m) where
-  pub poured-natural : (n : ℕ) → Poured m k (decimal n) r o → Poured l at (field (pos n)) r o
+module _ {l m o : List ℕ} {at k r : ℕ} (blank : Put l at (32 ∷ []) k m) where
+  pub poured-natural : (n : ℕ) → Put m k (decimal n) r o → Put l at (field (pos n)) r o
   unfolding field
   poured-natural n q = poured-both q blank
 
-  natural : (v : ℤ) → isNegative v ≡ false → Poured m k (decimal (natAbs v)) r o → Poured l at (field v) r o
+  natural : (v : ℤ) → isNegative v ≡ false → Put m k (decimal (natAbs v)) r o → Put l at (field v) r o
   natural (pos n) e q = poured-natural n q
   natural (negsuc n) e q = let z : _≡_ {A = ℕ} 0 1 = cc in absurd (zero-one z)
 
-  negative : {h : List ℕ} {j : ℕ} (v : ℤ) → isNegative v ≡ true → Poured m k (45 ∷ []) j h → Poured h j (decimal (natAbs v)) r o → Poured l at (field v) r o
+  negative : {h : List ℕ} {j : ℕ} (v : ℤ) → isNegative v ≡ true → Put m k (45 ∷ []) j h → Put h j (decimal (natAbs v)) r o → Put l at (field v) r o
   unfolding field
   negative (pos n) e p q = let z : _≡_ {A = ℕ} 0 1 = cc in absurd (zero-one z)
   negative (negsuc n) e p q = poured-both q (poured-both p blank)
 
 module _ (v : ℤ) (f : SFits w32 v) {s : ℕ} {t : Bool} (es : s ≡ natAbs (toZ w32 (ofZ w32 v))) (et : t ≡ isNegative (toZ w32 (ofZ w32 v))) where
-  pub poured-plain : {l m o : List ℕ} {at k r : ℕ} → t ≡ false → Poured l at (32 ∷ []) k m → Poured m k (decimal s) r o → Poured l at (field v) r o
+  pub poured-plain : {l m o : List ℕ} {at k r : ℕ} → t ≡ false → Put l at (32 ∷ []) k m → Put m k (decimal s) r o → Put l at (field v) r o
   poured-plain e b q =
       let size : s ≡ natAbs v = rw (toZ-ofZ f) at es in
       let sign : t ≡ isNegative v = rw (toZ-ofZ f) at et in
       natural b v (sym sign ∙ e) (rw size at q)
 
-  pub poured-minus : {l m h o : List ℕ} {at k j r : ℕ} → t ≡ true → Poured l at (32 ∷ []) k m → Poured m k (45 ∷ []) j h → Poured h j (decimal s) r o → Poured l at (field v) r o
+  pub poured-minus : {l m h o : List ℕ} {at k j r : ℕ} → t ≡ true → Put l at (32 ∷ []) k m → Put m k (45 ∷ []) j h → Put h j (decimal s) r o → Put l at (field v) r o
   poured-minus e b p q =
       let size : s ≡ natAbs v = rw (toZ-ofZ f) at es in
       let sign : t ≡ isNegative v = rw (toZ-ofZ f) at et in
@@ -91,7 +91,7 @@ pub ruleset singles = (poured-natural, poured-plain, poured-minus, poured-long)
 
 pub record Pouring (list : List ℤ) (l₀ : List ℕ) (at : ℕ) (l : List ℕ) (n i : ℕ) : Type 0 where
   pub upto : i ≤ length list
-  pub passed : Poured l₀ at (fields (take i list)) n l
+  pub passed : Put l₀ at (fields (take i list)) n l
 
 pub pouring-none : (list : List ℤ) (l : List ℕ) (at : ℕ) → length l * 1 < 2 ^ 63 → Pouring list l at l at 0
 unfolding fields
@@ -102,12 +102,12 @@ unfolding fields
 one-more [] v = append-nil (field v)
 one-more (x ∷ vs) v = rw (one-more vs v) (sym (append-assoc (field x) (fields vs) (field v)))
 
-pub pouring-more : (list : List ℤ) {l₀ l o : List ℕ} {at n k : ℕ} (i : ℕ) (x : ℤ) → Pouring list l₀ at l n i → i < length list → x ≡ getD list i (pos 0) → Poured l n (field x) k o → Pouring list l₀ at o k (i + 1)
+pub pouring-more : (list : List ℤ) {l₀ l o : List ℕ} {at n k : ℕ} (i : ℕ) (x : ℤ) → Pouring list l₀ at l n i → i < length list → x ≡ getD list i (pos 0) → Put l n (field x) k o → Pouring list l₀ at o k (i + 1)
 pouring-more list i x f h e p =
     let d : take (i + 1) list ≡ take i list ++ (x ∷ []) = rw (add-one i, e) (take-suc list i (pos 0) h) in
     record { upto = omega arith; passed = rw (d, one-more (take i list) x) (poured-both p (f .passed)) }
 
-pub pouring-end : (list : List ℤ) {l₀ l : List ℕ} {at n : ℕ} (i : ℕ) → Pouring list l₀ at l n i → length list ≤ i → Poured l₀ at (fields list) n l
+pub pouring-end : (list : List ℤ) {l₀ l : List ℕ} {at n : ℕ} (i : ℕ) → Pouring list l₀ at l n i → length list ≤ i → Put l₀ at (fields list) n l
 pouring-end list i f h = let d : take i list ≡ list = take-all i list h in rw d at (f .passed)
 
 pub pouring-long : {list : List ℤ} {l₀ l : List ℕ} {at n i : ℕ} → Pouring list l₀ at l n i → length l ≡ length l₀

@@ -1,4 +1,3 @@
 pub mod Pours
 pub mod Digits
-pub mod Held
 pub mod Lined

@@ -14,26 +14,33 @@ use Rattle.refusals.specs.declared.Refusal.{Refusal}
 use Rattle.refusals.specs.declared.Refusal.the-variants.{TooShort}
 use Rattle.refusals.specs.Refusals.{numberOf}
 use Rattle.refusals.proofs.Many.{past-end}
-use Rattle.memory.specs.declared.Remembered.{Remembered}
-use Rattle.wire.specs.declared.Written.the-variants.{Next, NotWritten}
+use Rattle.wire.specs.declared.Written.{Written}
+use Rattle.wire.specs.declared.Written.the-variants.{Next}
 use Rattle.wire.specs.Sending.{writtenOf, roomFor, writeAt, afterWrite}
 use Rattle.parameters.specs.declared.Parameters.{Parameters}
-use Rattle.parameters.specs.Shapes.{valuesOf, tailOf}
+use Rattle.parameters.specs.declared.Entry.{Entry}
+use Rattle.parameters.specs.declared.Numbers.{Numbers}
+use Rattle.parameters.specs.declared.Tail.{Tail}
+use Rattle.parameters.specs.declared.Tail.the-variants.{NoList, ListOf}
+use Rattle.parameters.specs.Shapes.{Value, valuesOf, tailOf}
+use Rattle.parameters.specs.Numbers.{numbersOf, Holds}
 use Rattle.commands.specs.declared.Command.{Command}
+use Rattle.commands.specs.declared.TakenCommand.{TakenCommand}
+use Rattle.stream.specs.declared.TextItem.{TextItem}
+use Rattle.stream.specs.declared.RefusedItem.{RefusedItem}
 use Rattle.stream.specs.declared.Item.{Item}
-use Rattle.stream.specs.declared.Item.the-variants.{Nothing, Text, Done, Refused, NotRead}
-use Rattle.lines.specs.declared.Numbers.{Numbers}
+use Rattle.stream.specs.declared.Item.the-variants.{Nothing, Text}
 use Rattle.lines.specs.Decimals.{field, fields}
-use Rattle.lines.specs.Pouring.{far, behind, Poured}
-use Rattle.lines.specs.Lines.{numbersOf, Holds, isList, listed, opening, textLine, letters, commandHead, parametersWords, commandLine, pair, refusedLine, lineOf, lastLetter, lastLine}
+use Rattle.lines.specs.Pouring.{far, behind, Put}
+use Rattle.lines.specs.Lines.{listed, opening, textLine, letters, commandHead, parametersWords, commandLine, pair, refusedLine, lineOf, lastLetter, lastLine}
 use Rattle.lines.proofs.Pours.{poured-none, poured-both, poured-long}
 
 -- ---- parts of lists
 
-pub front-long : (vs : List ℤ) {r : Numbers} → Holds vs r → r .len ≡ length (take (r .len) (r .values))
+pub front-long : (vs : List Value) {r : Numbers} → Holds vs r → r .len ≡ length (take (r .len) (r .values))
 front-long vs {r} h = sym (length-take-le (r .len) (r .values) (h .within))
 
-pub fixed-poured : {vs : List ℤ} {r : Numbers} {l o : List ℕ} {at n : ℕ} → Holds vs r → Poured l at (fields (take (r .len) (r .values))) n o → Poured l at (fields vs) n o
+pub fixed-poured : {vs : List Value} {r : Numbers} {l o : List ℕ} {at n : ℕ} → Holds vs r → Put l at (fields (take (r .len) (r .values))) n o → Put l at (fields (numbersOf vs)) n o
 fixed-poured h p = rw (h .same) at p
 
 pub least-long : (k : ℕ) (list : List ℤ) {m : ℕ} → m ≡ min k (length list) → m ≡ length (take m list)
@@ -46,11 +53,11 @@ first-of k list =
     (λ e. take-all (min k (length list)) list (omega arith) ∙ sym (take-all k list (omega arith)))
     (eq-zero-or-pos (k - length list))
 
-pub list-poured : (t : Bool) (k : ℕ) (list : List ℤ) {m : ℕ} {l h o : List ℕ} {at j n : ℕ} {is : Bool} → is ≡ t → is ≡ true → m ≡ min k (length list) → Poured h j (fields (take m list)) n o → Poured l at (field (pos k)) j h → Poured l at (listed t k list) n o
+pub list-poured : (t : Tail) (k : ℕ) (list : List ℤ) {m : ℕ} {l h o : List ℕ} {at j n : ℕ} {u : Tail} {e : Entry} → u ≡ t → u ≡ ListOf e → m ≡ min k (length list) → Put h j (fields (take m list)) n o → Put l at (field (pos k)) j h → Put l at (listed t k list) n o
 unfolding listed
 list-poured t k list e f d q p = rw (← e, f, ← first-of k list, ← d) (poured-both q p)
 
-pub no-list : (t : Bool) (k : ℕ) (list : List ℤ) {is : Bool} (l : List ℕ) (at : ℕ) → is ≡ t → is ≡ false → length l * 1 < 2 ^ 63 → Poured l at (listed t k list) at l
+pub no-list : (t : Tail) (k : ℕ) (list : List ℤ) {u : Tail} (l : List ℕ) (at : ℕ) → u ≡ t → u ≡ NoList → length l * 1 < 2 ^ 63 → Put l at (listed t k list) at l
 unfolding listed
 no-list t k list l at e f h = rw (← e, f) (poured-none l at h)
 
@@ -59,71 +66,71 @@ pub ruleset lists = (front-long, fixed-poured, least-long, list-poured, no-list,
 -- ---- the lines
 
 module _ {l o : List ℕ} {n : ℕ} where
-  pub opening-poured : (x start : ℕ) {l₁ : List ℕ} {i : ℕ} → Poured l₁ i (field (pos start)) n o → Poured l 0 (x ∷ []) i l₁ → Poured l 0 (opening x start) n o
+  pub opening-poured : (x start : ℕ) {l₁ : List ℕ} {i : ℕ} → Put l₁ i (field (pos start)) n o → Put l 0 (x ∷ []) i l₁ → Put l 0 (opening x start) n o
   unfolding opening
   opening-poured x start b a = poured-both b a
 
-  pub text-poured : (start b : ℕ) {l₁ l₂ : List ℕ} {i j : ℕ} → Poured l₂ j (10 ∷ []) n o → Poured l₁ i (field (pos b)) j l₂ → Poured l 0 (opening 84 start) i l₁ → Poured l 0 (textLine start b) n o
+  pub text-poured : (start b : ℕ) {l₁ l₂ : List ℕ} {i j : ℕ} → Put l₂ j (10 ∷ []) n o → Put l₁ i (field (pos b)) j l₂ → Put l 0 (opening 84 start) i l₁ → Put l 0 (textLine start b) n o
   unfolding textLine
   text-poured s v c b a = poured-both c (poured-both b a)
 
-  pub letters-poured : {x y at : ℕ} {l₁ l₂ : List ℕ} {i j : ℕ} → Poured l₂ j (y ∷ []) n o → Poured l₁ i (x ∷ []) j l₂ → Poured l at (32 ∷ []) i l₁ → Poured l at (letters x y) n o
+  pub letters-poured : {x y at : ℕ} {l₁ l₂ : List ℕ} {i j : ℕ} → Put l₂ j (y ∷ []) n o → Put l₁ i (x ∷ []) j l₂ → Put l at (32 ∷ []) i l₁ → Put l at (letters x y) n o
   unfolding letters
   letters-poured c b a = poured-both c (poured-both b a)
 
-  pub pair-poured : (a b : ℕ) {l₁ : List ℕ} {at i : ℕ} → Poured l₁ i (field (pos b)) n o → Poured l at (field (pos a)) i l₁ → Poured l at (pair a b) n o
+  pub pair-poured : (a b : ℕ) {l₁ : List ℕ} {at i : ℕ} → Put l₁ i (field (pos b)) n o → Put l at (field (pos a)) i l₁ → Put l at (pair a b) n o
   unfolding pair
   pair-poured x y b a = poured-both b a
 
-  pub refused-poured : (start p : ℕ) (x : Refusal) {e : ℕ} {l₁ l₂ : List ℕ} {i j : ℕ} → Poured l₂ j (10 ∷ []) n o → Poured l₁ i (pair e p) j l₂ → Poured l 0 (opening 82 start) i l₁ → e ≡ numberOf x → Poured l 0 (refusedLine start (numberOf x) p) n o
+  pub refused-poured : (start p : ℕ) (x : Refusal) {e : ℕ} {l₁ l₂ : List ℕ} {i j : ℕ} → Put l₂ j (10 ∷ []) n o → Put l₁ i (pair e p) j l₂ → Put l 0 (opening 82 start) i l₁ → e ≡ numberOf x → Put l 0 (refusedLine start (numberOf x) p) n o
   unfolding refusedLine
   refused-poured start p x c b a e = rw (← e) (poured-both c (poured-both b a))
 
-  pub parameters-poured : (ps : Parameters) (count : ℕ) (list : List ℤ) {l₁ : List ℕ} {at i : ℕ} → Poured l₁ i (listed (isList (tailOf ps)) count list) n o → Poured l at (fields (numbersOf (valuesOf ps))) i l₁ → Poured l at (parametersWords ps count list) n o
+  pub parameters-poured : (ps : Parameters) (count : ℕ) (list : List ℤ) {l₁ : List ℕ} {at i : ℕ} → Put l₁ i (listed (tailOf ps) count list) n o → Put l at (fields (numbersOf (valuesOf ps))) i l₁ → Put l at (parametersWords ps count list) n o
   unfolding parametersWords
   parameters-poured ps count list b a = poured-both b a
 
-  pub head-poured : (start x y : ℕ) {l₁ : List ℕ} {i : ℕ} → Poured l₁ i (letters x y) n o → Poured l 0 (opening 67 start) i l₁ → Poured l 0 (commandHead start x y) n o
+  pub head-poured : (start x y : ℕ) {l₁ : List ℕ} {i : ℕ} → Put l₁ i (letters x y) n o → Put l 0 (opening 67 start) i l₁ → Put l 0 (commandHead start x y) n o
   unfolding commandHead
   head-poured start x y b a = poured-both b a
 
-  pub command-poured : (c : Command) (count start : ℕ) (list : List ℤ) {l₁ l₂ : List ℕ} {i j : ℕ} → Poured l₂ j (10 ∷ []) n o → Poured l₁ i (parametersWords (c .parameters) count list) j l₂ → Poured l 0 (commandHead start (c .first) (c .second)) i l₁ → Poured l 0 (commandLine c count start list) n o
+  pub command-poured : (c : Command) (count start : ℕ) (list : List ℤ) {l₁ l₂ : List ℕ} {i j : ℕ} → Put l₂ j (10 ∷ []) n o → Put l₁ i (parametersWords (c .parameters) count list) j l₂ → Put l 0 (commandHead start (c .first) (c .second)) i l₁ → Put l 0 (commandLine c count start list) n o
   unfolding commandLine
   command-poured c k s v d b a = poured-both d (poured-both b a)
 
-  pub last-poured : (more : Bool) (k : ℕ) {x : ℕ} {l₁ : List ℕ} {i : ℕ} → Poured l₁ i (10 ∷ []) n o → Poured l 0 (opening x k) i l₁ → x ≡ lastLetter more → Poured l 0 (lastLine more k) n o
+  pub last-poured : (more : Bool) (k : ℕ) {x : ℕ} {l₁ : List ℕ} {i : ℕ} → Put l₁ i (10 ∷ []) n o → Put l 0 (opening x k) i l₁ → x ≡ lastLetter more → Put l 0 (lastLine more k) n o
   unfolding lastLine
   last-poured m k b a e = rw (← e) (poured-both b a)
 
 -- ---- by item
 
 module _ (it : Item) (start : ℕ) (list : List ℤ) where
-  pub line-nothing : (l : List ℕ) → it ≡ Nothing → length l * 1 < 2 ^ 63 → Poured l 0 (lineOf it start list) 0 l
+  pub line-nothing : (l : List ℕ) → it ≡ Nothing → length l * 1 < 2 ^ 63 → Put l 0 (lineOf it start list) 0 l
   unfolding lineOf
   line-nothing l g h = rw g (poured-none l 0 h)
 
-  pub line-not-read : (l : List ℕ) {e : Refusal} {p : ℕ} → it ≡ NotRead e p → length l * 1 < 2 ^ 63 → Poured l 0 (lineOf it start list) 0 l
+  pub line-refused-call : (l : List ℕ) {e : Refusal} {p : ℕ} → it ≡ Item.Refused e p → length l * 1 < 2 ^ 63 → Put l 0 (lineOf it start list) 0 l
   unfolding lineOf
-  line-not-read l g h = rw g (poured-none l 0 h)
+  line-refused-call l g h = rw g (poured-none l 0 h)
 
   module _ {l o : List ℕ} {n : ℕ} where
-    pub line-text : {b m : ℕ} → it ≡ Text b m → Poured l 0 (textLine start b) n o → Poured l 0 (lineOf it start list) n o
+    pub line-text : {t : TextItem} → it ≡ Text t → Put l 0 (textLine start (t .byte)) n o → Put l 0 (lineOf it start list) n o
     unfolding lineOf
     line-text g h = rw g h
 
-    pub line-done : {c : Command} {k m : ℕ} {kept : Remembered} → it ≡ Done c k m kept → Poured l 0 (commandLine c k start list) n o → Poured l 0 (lineOf it start list) n o
+    pub line-command : {t : TakenCommand} → it ≡ Item.Command t → Put l 0 (commandLine (t .command) (t .count) start list) n o → Put l 0 (lineOf it start list) n o
     unfolding lineOf
-    line-done g h = rw g h
+    line-command g h = rw g h
 
-    pub line-refused : {e : Refusal} {p m : ℕ} {k : Remembered} → it ≡ Refused e p m k → Poured l 0 (refusedLine start (numberOf e) p) n o → Poured l 0 (lineOf it start list) n o
+    pub line-refused-command : {i : RefusedItem} → it ≡ Item.RefusedCommand i → Put l 0 (refusedLine start (numberOf (i .refusal)) (i .place)) n o → Put l 0 (lineOf it start list) n o
     unfolding lineOf
-    line-refused g h = rw g h
+    line-refused-command g h = rw g h
 
-pub ruleset items = (line-nothing, line-not-read, line-text, line-done, line-refused, poured-long)
+pub ruleset items = (line-nothing, line-refused-call, line-text, line-command, line-refused-command, poured-long)
 
 -- ---- poured on nothing, to learn the length; and then on the lent bytes
 
-module _ (w l : List ℕ) {q : List ℕ} {m : ℕ} (dry : Poured [] 0 w m q) where
+module _ (w l : List ℕ) {q : List ℕ} {m : ℕ} (dry : Put [] 0 w m q) where
   kept : q ++ l ≡ l
   kept = let e : q ≡ [] = dry .stands ∙ past-end [] 0 w (omega arith) in rw e
 
@@ -131,18 +138,18 @@ module _ (w l : List ℕ) {q : List ℕ} {m : ℕ} (dry : Poured [] 0 w m q) whe
   unfolding behind
   size = omega (arith, dry .next)
 
-  pub line-kept : (e : Refusal) → q ++ l ≡ afterWrite (writtenOf (NotWritten e)) w l 0
+  pub line-kept : (e : Refusal) → q ++ l ≡ afterWrite (writtenOf (Written.Refused e)) w l 0
   unfolding writtenOf afterWrite
   line-kept e = kept
 
-  pub line-short : length (q ++ l) < m → writtenOf (NotWritten TooShort) ≡ writeAt w (length l) 0
+  pub line-short : length (q ++ l) < m → writtenOf (Written.Refused TooShort) ≡ writeAt w (length l) 0
   unfolding writtenOf writeAt roomFor
   line-short h =
       let z = size in
       let i : length l < m = rw kept at h in
       rw (lt-leb (0 + length w) (length l) (omega arith))
 
-  module _ {o : List ℕ} {n : ℕ} (wet : Poured (q ++ l) 0 w n o) where
+  module _ {o : List ℕ} {n : ℕ} (wet : Put (q ++ l) 0 w n o) where
     pub line-stands : o ≡ afterWrite (writtenOf (Next n)) w l 0
     unfolding writtenOf afterWrite
     line-stands = rw kept at (wet .stands)

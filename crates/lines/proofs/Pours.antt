@@ -7,14 +7,8 @@ use native.Mathlib.Omega.{arith}
 use native.Mathlib.Nat.{eq-zero-or-pos}
 use lib.ListN.{length, set, length-append}
 use lib.Seq.{sets, set-out, length-sets}
-use Rattle.refusals.proofs.Many.{past-end}
-use Rattle.lines.specs.Pouring.{far, behind, Poured}
-
-sets-append : (a b l : List ℕ) (at : ℕ) → sets (sets l at a) (at + length a) b ≡ sets l at (a ++ b)
-sets-append [] b l at = let z : at + 0 ≡ at = omega arith in ap (λ (k : ℕ). sets l k b) z
-sets-append (x ∷ a) b l at =
-    let z : at + length (x ∷ a) ≡ suc at + length a = omega arith in
-    ap (λ (k : ℕ). sets (sets (set l at x) (suc at) a) k b) z ∙ sets-append a b (set l at x) (suc at)
+use Rattle.refusals.proofs.Many.{past-end, sets-append}
+use Rattle.lines.specs.Pouring.{far, behind, Put}
 
 behind-both : (a b : List ℕ) (at : ℕ) → behind (behind at a) b ≡ behind at (a ++ b)
 unfolding behind
@@ -34,24 +28,24 @@ both-stand a b l at h =
     ∙ sets-append a b l at)
     (eq-zero-or-pos (length a - (far - at)))
 
-pub poured-none : (l : List ℕ) (at : ℕ) → length l * 1 < 2 ^ 63 → Poured l at [] at l
+pub poured-none : (l : List ℕ) (at : ℕ) → length l * 1 < 2 ^ 63 → Put l at [] at l
 unfolding behind
 poured-none l at h = record { room = omega arith; next = omega arith; stands = refl }
 
-pub poured-inside : (l : List ℕ) (at b : ℕ) → length l * 1 < 2 ^ 63 → at < length l → Poured l at (b ∷ []) (at + 1) (set l at b)
+pub poured-inside : (l : List ℕ) (at b : ℕ) → length l * 1 < 2 ^ 63 → at < length l → Put l at (b ∷ []) (at + 1) (set l at b)
 unfolding behind
 poured-inside l at b h i = record { room = omega arith; next = omega arith; stands = refl }
 
-pub poured-past : (l : List ℕ) (at b : ℕ) → length l * 1 < 2 ^ 63 → length l ≤ at → at < far → Poured l at (b ∷ []) (at + 1) l
+pub poured-past : (l : List ℕ) (at b : ℕ) → length l * 1 < 2 ^ 63 → length l ≤ at → at < far → Put l at (b ∷ []) (at + 1) l
 unfolding behind
 poured-past l at b h i j = record { room = omega arith; next = omega arith; stands = sym (set-out l at b i) }
 
-pub poured-far : (l : List ℕ) (at b : ℕ) → length l * 1 < 2 ^ 63 → far ≤ at → Poured l at (b ∷ []) at l
+pub poured-far : (l : List ℕ) (at b : ℕ) → length l * 1 < 2 ^ 63 → far ≤ at → Put l at (b ∷ []) at l
 unfolding behind
 poured-far l at b h i = record { room = omega arith; next = omega arith; stands = sym (set-out l at b (omega arith)) }
 
 -- the later first: what it was poured on is what the earlier left
-pub poured-both : {l m o a b : List ℕ} {at n k : ℕ} → Poured m n b k o → Poured l at a n m → Poured l at (a ++ b) k o
+pub poured-both : {l m o a b : List ℕ} {at n k : ℕ} → Put m n b k o → Put l at a n m → Put l at (a ++ b) k o
 poured-both {l = l} {a = a} {b = b} {at = at} q p =
     record {
       room = p .room;
@@ -59,7 +53,7 @@ poured-both {l = l} {a = a} {b = b} {at = at} q p =
       stands = q .stands ∙ rw (p .stands, p .next) (both-stand a b l at (p .room));
     }
 
-pub poured-long : {l w o : List ℕ} {at n : ℕ} → Poured l at w n o → length o ≡ length l
+pub poured-long : {l w o : List ℕ} {at n : ℕ} → Put l at w n o → length o ≡ length l
 poured-long {l = l} {w = w} {at = at} p = ap length (p .stands) ∙ length-sets l at w
 
 pub ruleset bytes = (poured-none, poured-inside, poured-past, poured-far)

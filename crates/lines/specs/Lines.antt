@@ -1,45 +1,25 @@
 -- "It .. prints one line an item, newline 10. T: place, byte. C: start, letters, numbers in decimal, characters as their codes (arrays
 -- and strings: count, then entries). R: start, refusal, place. Last: E and the bytes read, or M 4096 if more input follows."
-use Prim.Native.Nat.{ℕ, _≤_}
-use mathlib.Core.Path.{_≡_}
+use Prim.Native.Nat.{ℕ}
 use mathlib.Core.Bool.{Bool, true, false}
 use mathlib.Core.List.{List, [], _∷_, _++_}
-use lib.ListN.{length, take}
+use lib.ListN.{take}
 use lib.IntN.{ℤ, pos}
-use Rattle.memory.specs.declared.Point.{Point}
 use Rattle.refusals.specs.Refusals.{numberOf}
 use Rattle.parameters.specs.declared.Parameters.{Parameters}
-use Rattle.parameters.specs.Shapes.{Value, number, scaled, place, valuesOf, Tail, none, counted, tailOf}
+use Rattle.parameters.specs.declared.Tail.{Tail}
+use Rattle.parameters.specs.declared.Tail.the-variants.{NoList, ListOf}
+use Rattle.parameters.specs.Shapes.{valuesOf, tailOf}
+use Rattle.parameters.specs.Numbers.{numbersOf}
 use Rattle.commands.specs.declared.Command.{Command}
 use Rattle.stream.specs.declared.Item.{Item}
-use Rattle.stream.specs.declared.Item.the-variants.{Nothing, Text, Done, Refused, NotRead}
-use Rattle.lines.specs.declared.Numbers.{Numbers}
+use Rattle.stream.specs.declared.Item.the-variants.{Nothing, Text}
 use Rattle.lines.specs.Decimals.{field, fields}
 
--- "x and y"
-abbrev pub pointNumbers : Point → List ℤ
-pointNumbers p = pos (p .x) ∷ pos (p .y) ∷ []
-
--- the numbers of the fixed values: a real is its mantissa and its exponent
-abbrev pub numbersOf : List Value → List ℤ
-numbersOf [] = []
-numbersOf (number e v ∷ vs) = v ∷ numbersOf vs
-numbersOf (scaled m e ∷ vs) = m ∷ e ∷ numbersOf vs
-numbersOf (place p ∷ vs) = pointNumbers p ++ numbersOf vs
-
--- r holds just the numbers vs
-pub record Holds (vs : List ℤ) (r : Numbers) : Type 0 where
-  pub same : take (r .len) (r .values) ≡ vs
-  pub within : r .len ≤ length (r .values)
-
-abbrev pub isList : Tail → Bool
-isList none = false
-isList (counted e) = true
-
 -- the count and the entries, where the parameters have any
-unfoldable pub listed : Bool → ℕ → List ℤ → List ℕ
-listed true k list = field (pos k) ++ fields (take k list)
-listed false k list = []
+unfoldable pub listed : Tail → ℕ → List ℤ → List ℕ
+listed NoList k list = []
+listed (ListOf e) k list = field (pos k) ++ fields (take k list)
 
 abbrev newline : List ℕ
 newline = 10 ∷ []
@@ -58,7 +38,7 @@ unfoldable pub commandHead : (start first second : ℕ) → List ℕ
 commandHead start a b = opening 67 start ++ letters a b
 
 unfoldable pub parametersWords : Parameters → ℕ → List ℤ → List ℕ
-parametersWords ps k list = fields (numbersOf (valuesOf ps)) ++ listed (isList (tailOf ps)) k list
+parametersWords ps k list = fields (numbersOf (valuesOf ps)) ++ listed (tailOf ps) k list
 
 unfoldable pub commandLine : Command → ℕ → ℕ → List ℤ → List ℕ
 commandLine c k start list =
@@ -73,10 +53,10 @@ refusedLine start e p = opening 82 start ++ pair e p ++ newline
 -- the line of the item that starts at start; no item has none
 unfoldable pub lineOf : Item → ℕ → List ℤ → List ℕ
 lineOf Nothing start list = []
-lineOf (Text b n) start list = textLine start b
-lineOf (Done c k n kept) start list = commandLine c k start list
-lineOf (Refused e p n k) start list = refusedLine start (numberOf e) p
-lineOf (NotRead e p) start list = []
+lineOf (Text t) start list = textLine start (t .byte)
+lineOf (Item.Command t) start list = commandLine (t .command) (t .count) start list
+lineOf (Item.RefusedCommand r) start list = refusedLine start (numberOf (r .refusal)) (r .place)
+lineOf (Item.Refused e p) start list = []
 
 -- "Last: E and the bytes read, or M 4096 if more input follows"
 abbrev pub lastLetter : Bool → ℕ

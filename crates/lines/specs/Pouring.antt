@@ -14,7 +14,7 @@ unfoldable pub behind : ℕ → List ℕ → ℕ
 behind at w = at + min (length w) (far - at)
 
 -- w was poured from at on
-pub record Poured (l : List ℕ) (at : ℕ) (w : List ℕ) (n : ℕ) (o : List ℕ) : Type 0 where
+pub record Put (l : List ℕ) (at : ℕ) (w : List ℕ) (n : ℕ) (o : List ℕ) : Type 0 where
   pub room : length l < far
   pub next : n ≡ behind at w
   pub stands : o ≡ sets l at w

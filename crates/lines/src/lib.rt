@@ -1,19 +1,20 @@
 // The lister's lines: one for each item of a host stream, and the last one.
 // A line is poured twice: once on no bytes, to learn how long it is, and, where it fits, once on the lent ones.
 ghost use mathlib.Core.Path.{_≡_};
-ghost use mathlib.Core.List.{[], _∷_, _++_};
-ghost use Prim.Native.Nat.{_≤_, min};
-ghost use lib.ListN.{length, take};
+ghost use mathlib.Core.List.{[], _∷_};
+ghost use Prim.Native.Nat.{min};
+ghost use lib.ListN.{length};
 ghost use lib.IntN.{pos};
 ghost use Rattle.wire.specs.Sending.{writeAt, afterWrite, writtenOf};
 ghost use Rattle.refusals.specs.Refusals.{numberOf};
 ghost use Rattle.parameters.specs.Shapes.{valuesOf, tailOf};
+ghost use Rattle.parameters.specs.Numbers.{numbersOf};
 ghost use Rattle.lines.specs.Decimals.{decimal, field, fields};
-ghost use Rattle.lines.specs.Pouring.{Poured};
-ghost use Rattle.lines.specs.Lines.{pointNumbers, numbersOf, isList, listed, opening, textLine, letters, commandHead, parametersWords, commandLine, pair, refusedLine, lineOf, lastLetter, lastLine, Holds};
+ghost use Rattle.lines.specs.Pouring.{Put};
+ghost use Rattle.lines.specs.Lines.{listed, opening, textLine, letters, commandHead, parametersWords, commandLine, pair, refusedLine, lineOf, lastLetter, lastLine};
 use commands::Command;
-use memory::Point;
 use parameters::Parameters;
+use parameters::Tail;
 use refusals::Refusal;
 use stream::Item;
 use wire::Written;
@@ -21,17 +22,11 @@ use wire::Written;
 // No lent bytes are as many: a count of bytes stops here.
 const FAR: usize = 9223372036854775808;
 
-// The numbers of a command's fixed values. Two points have the most, four.
-struct Numbers {
-    values: [i32; 4],
-    len: usize,
-}
-
 // ---- bytes and numbers
 
 // One byte, stored where there is room, and counted.
 fn put(b: u8, out: &mut [u8], at: usize) -> usize
-    ensures { λ r. ⌜ Poured (now (out .entry)) at (b ∷ []) r (now (out .exit)) ⌝ }
+    ensures { λ r. ⌜ Put (now (out .entry)) at (b ∷ []) r (now (out .exit)) ⌝ }
 {
     if at < out.len() {
         out[at] = b;
@@ -45,7 +40,7 @@ fn put(b: u8, out: &mut [u8], at: usize) -> usize
 
 // The digits of `n`.
 fn put_decimal(n: usize, out: &mut [u8], at: usize) -> usize
-    ensures { λ r. ⌜ Poured (now (out .entry)) at (decimal n) r (now (out .exit)) ⌝ }
+    ensures { λ r. ⌜ Put (now (out .entry)) at (decimal n) r (now (out .exit)) ⌝ }
 {
     if n < 10 {
         let only = b'0' + n as u8;
@@ -59,7 +54,7 @@ fn put_decimal(n: usize, out: &mut [u8], at: usize) -> usize
 
 // A blank and a number that is not negative.
 fn put_natural(n: usize, out: &mut [u8], at: usize) -> usize
-    ensures { λ r. ⌜ Poured (now (out .entry)) at (field (pos n)) r (now (out .exit)) ⌝ }
+    ensures { λ r. ⌜ Put (now (out .entry)) at (field (pos n)) r (now (out .exit)) ⌝ }
 {
     let next = put(b' ', out, at);
     put_decimal(n, out, next)
@@ -67,7 +62,7 @@ fn put_natural(n: usize, out: &mut [u8], at: usize) -> usize
 
 // A blank and any number.
 fn put_number(v: i32, out: &mut [u8], at: usize) -> usize
-    ensures { λ r. ⌜ Poured (now (out .entry)) at (field v) r (now (out .exit)) ⌝ }
+    ensures { λ r. ⌜ Put (now (out .entry)) at (field v) r (now (out .exit)) ⌝ }
 {
     let size = signs::magnitude(v) as usize;
     let next = put(b' ', out, at);
@@ -80,7 +75,7 @@ fn put_number(v: i32, out: &mut [u8], at: usize) -> usize
 
 // Each number of the list, with a blank before it.
 fn put_numbers(list: &[i32], out: &mut [u8], at: usize) -> usize
-    ensures { λ r. ⌜ Poured (now (out .entry)) at (fields (now (list .entry))) r (now (out .exit)) ⌝ }
+    ensures { λ r. ⌜ Put (now (out .entry)) at (fields (now (list .entry))) r (now (out .exit)) ⌝ }
 {
     let mut i = 0;
     let mut next = at;
@@ -93,73 +88,6 @@ fn put_numbers(list: &[i32], out: &mut [u8], at: usize) -> usize
 
 // ---- the parameters
 
-fn of_point(point: Point) -> Numbers
-    ensures { λ r. ⌜ Holds (pointNumbers point) r ⌝ }
-{
-    Numbers {
-        values: [point.x as i32, point.y as i32, 0, 0],
-        len: 2,
-    }
-}
-
-fn of_corners(one: Point, two: Point) -> Numbers
-    ensures { λ r. ⌜ Holds (pointNumbers one ++ pointNumbers two) r ⌝ }
-{
-    Numbers {
-        values: [one.x as i32, one.y as i32, two.x as i32, two.y as i32],
-        len: 4,
-    }
-}
-
-// The first `len` of three.
-fn of_three(a: i32, b: i32, c: i32, len: usize) -> Numbers
-    requires { ⌜ len ≤ 3 ⌝ }
-    ensures { λ r. ⌜ Holds (take len (a ∷ b ∷ c ∷ [])) r ⌝ }
-{
-    Numbers {
-        values: [a, b, c, 0],
-        len: len,
-    }
-}
-
-// The numbers of the fixed values.
-fn numbers_of(parameters: Parameters) -> Numbers
-    ensures { λ r. ⌜ Holds (numbersOf (valuesOf parameters)) r ⌝ }
-{
-    match parameters {
-        Parameters::Single(a) => of_three(a, 0, 0, 1),
-        Parameters::Double(a, b) => of_three(a, b, 0, 2),
-        Parameters::Triple(a, b, c) => of_three(a, b, c, 3),
-        Parameters::OnePoint(point) => of_point(point),
-        Parameters::Corners(one, two) => of_corners(one, two),
-        Parameters::Scale(real) => of_three(real.mantissa, real.exponent, 0, 2),
-        Parameters::Letters(a, b) => of_three(a, b, 0, 2),
-        Parameters::Text => of_three(0, 0, 0, 0),
-        Parameters::Array => of_three(0, 0, 0, 0),
-        Parameters::NumberedText(a) => of_three(a, 0, 0, 1),
-        Parameters::NumberedArray(a) => of_three(a, 0, 0, 1),
-    }
-}
-
-// Whether entries of the list go with the parameters.
-fn has_list(parameters: Parameters) -> bool
-    ensures { λ r. ⌜ r ≡ isList (tailOf parameters) ⌝ }
-{
-    match parameters {
-        Parameters::Text => true,
-        Parameters::Array => true,
-        Parameters::NumberedText(_) => true,
-        Parameters::NumberedArray(_) => true,
-        Parameters::Single(_) => false,
-        Parameters::Double(_, _) => false,
-        Parameters::Triple(_, _, _) => false,
-        Parameters::OnePoint(_) => false,
-        Parameters::Corners(_, _) => false,
-        Parameters::Scale(_) => false,
-        Parameters::Letters(_, _) => false,
-    }
-}
-
 fn least(a: usize, b: usize) -> usize
     ensures { λ r. ⌜ r ≡ min a b ⌝ }
 {
@@ -171,9 +99,9 @@ fn least(a: usize, b: usize) -> usize
 
 // The numbers of the fixed values, each with a blank before it.
 fn put_fixed(parameters: Parameters, out: &mut [u8], at: usize) -> usize
-    ensures { λ r. ⌜ Poured (now (out .entry)) at (fields (numbersOf (valuesOf parameters))) r (now (out .exit)) ⌝ }
+    ensures { λ r. ⌜ Put (now (out .entry)) at (fields (numbersOf (valuesOf parameters))) r (now (out .exit)) ⌝ }
 {
-    let fixed = numbers_of(parameters);
+    let fixed = parameters::numbers_of(parameters);
     let values = fixed.values;
     let len = fixed.len;
     put_numbers(&values[..len], out, at)
@@ -181,14 +109,16 @@ fn put_fixed(parameters: Parameters, out: &mut [u8], at: usize) -> usize
 
 // The count and the entries, where the parameters have any.
 fn put_list(parameters: Parameters, count: usize, list: &[i32], out: &mut [u8], at: usize) -> usize
-    ensures { λ r. ⌜ Poured (now (out .entry)) at (listed (isList (tailOf parameters)) count (now (list .entry))) r (now (out .exit)) ⌝ }
+    ensures { λ r. ⌜ Put (now (out .entry)) at (listed (tailOf parameters) count (now (list .entry))) r (now (out .exit)) ⌝ }
 {
-    if has_list(parameters) {
-        let next = put_natural(count, out, at);
-        let len = least(count, list.len());
-        return put_numbers(&list[..len], out, next);
+    match parameters::tail_of(parameters) {
+        Tail::NoList => at,
+        Tail::ListOf(_) => {
+            let next = put_natural(count, out, at);
+            let len = least(count, list.len());
+            put_numbers(&list[..len], out, next)
+        }
     }
-    at
 }
 
 fn put_parameters(
@@ -198,7 +128,7 @@ fn put_parameters(
     out: &mut [u8],
     at: usize,
 ) -> usize
-    ensures { λ r. ⌜ Poured (now (out .entry)) at (parametersWords parameters count (now (list .entry))) r (now (out .exit)) ⌝ }
+    ensures { λ r. ⌜ Put (now (out .entry)) at (parametersWords parameters count (now (list .entry))) r (now (out .exit)) ⌝ }
 {
     let next = put_fixed(parameters, out, at);
     put_list(parameters, count, list, out, next)
@@ -208,14 +138,14 @@ fn put_parameters(
 
 // A letter and where the item starts.
 fn put_opening(letter: u8, start: usize, out: &mut [u8]) -> usize
-    ensures { λ r. ⌜ Poured (now (out .entry)) 0 (opening letter start) r (now (out .exit)) ⌝ }
+    ensures { λ r. ⌜ Put (now (out .entry)) 0 (opening letter start) r (now (out .exit)) ⌝ }
 {
     let next = put(letter, out, 0);
     put_natural(start, out, next)
 }
 
 fn put_text(start: usize, b: u8, out: &mut [u8]) -> usize
-    ensures { λ r. ⌜ Poured (now (out .entry)) 0 (textLine start b) r (now (out .exit)) ⌝ }
+    ensures { λ r. ⌜ Put (now (out .entry)) 0 (textLine start b) r (now (out .exit)) ⌝ }
 {
     let one = put_opening(b'T', start, out);
     let two = put_natural(b as usize, out, one);
@@ -224,7 +154,7 @@ fn put_text(start: usize, b: u8, out: &mut [u8]) -> usize
 
 // A blank and the two op letters.
 fn put_letters(first: u8, second: u8, out: &mut [u8], at: usize) -> usize
-    ensures { λ r. ⌜ Poured (now (out .entry)) at (letters first second) r (now (out .exit)) ⌝ }
+    ensures { λ r. ⌜ Put (now (out .entry)) at (letters first second) r (now (out .exit)) ⌝ }
 {
     let one = put(b' ', out, at);
     let two = put(first, out, one);
@@ -232,14 +162,14 @@ fn put_letters(first: u8, second: u8, out: &mut [u8], at: usize) -> usize
 }
 
 fn put_head(start: usize, first: u8, second: u8, out: &mut [u8]) -> usize
-    ensures { λ r. ⌜ Poured (now (out .entry)) 0 (commandHead start first second) r (now (out .exit)) ⌝ }
+    ensures { λ r. ⌜ Put (now (out .entry)) 0 (commandHead start first second) r (now (out .exit)) ⌝ }
 {
     let next = put_opening(b'C', start, out);
     put_letters(first, second, out, next)
 }
 
 fn put_command(command: Command, count: usize, start: usize, list: &[i32], out: &mut [u8]) -> usize
-    ensures { λ r. ⌜ Poured (now (out .entry)) 0 (commandLine command count start (now (list .entry))) r (now (out .exit)) ⌝ }
+    ensures { λ r. ⌜ Put (now (out .entry)) 0 (commandLine command count start (now (list .entry))) r (now (out .exit)) ⌝ }
 {
     let parameters = command.parameters;
     let one = put_head(start, command.first, command.second, out);
@@ -248,14 +178,14 @@ fn put_command(command: Command, count: usize, start: usize, list: &[i32], out: 
 }
 
 fn put_pair(a: usize, b: usize, out: &mut [u8], at: usize) -> usize
-    ensures { λ r. ⌜ Poured (now (out .entry)) at (pair a b) r (now (out .exit)) ⌝ }
+    ensures { λ r. ⌜ Put (now (out .entry)) at (pair a b) r (now (out .exit)) ⌝ }
 {
     let next = put_natural(a, out, at);
     put_natural(b, out, next)
 }
 
 fn put_refused(start: usize, refusal: Refusal, place: usize, out: &mut [u8]) -> usize
-    ensures { λ r. ⌜ Poured (now (out .entry)) 0 (refusedLine start (numberOf refusal) place) r (now (out .exit)) ⌝ }
+    ensures { λ r. ⌜ Put (now (out .entry)) 0 (refusedLine start (numberOf refusal) place) r (now (out .exit)) ⌝ }
 {
     let number = refusals::number(refusal) as usize;
     let one = put_opening(b'R', start, out);
@@ -264,14 +194,20 @@ fn put_refused(start: usize, refusal: Refusal, place: usize, out: &mut [u8]) -> 
 }
 
 fn put_line(item: Item, start: usize, list: &[i32], out: &mut [u8]) -> usize
-    ensures { λ r. ⌜ Poured (now (out .entry)) 0 (lineOf item start (now (list .entry))) r (now (out .exit)) ⌝ }
+    ensures { λ r. ⌜ Put (now (out .entry)) 0 (lineOf item start (now (list .entry))) r (now (out .exit)) ⌝ }
 {
     match item {
         Item::Nothing => 0,
-        Item::Text(b, _) => put_text(start, b, out),
-        Item::Done(command, count, _, _) => put_command(command, count, start, list, out),
-        Item::Refused(refusal, place, _, _) => put_refused(start, refusal, place, out),
-        Item::NotRead(_, _) => 0,
+        Item::Text(text) => put_text(start, text.byte, out),
+        Item::Command(taken) => {
+            let command = taken.command;
+            put_command(command, taken.count, start, list, out)
+        }
+        Item::RefusedCommand(refused) => {
+            let refusal = refused.refusal;
+            put_refused(start, refusal, refused.place, out)
+        }
+        Item::Refused(_, _) => 0,
     }
 }
 
@@ -285,7 +221,7 @@ fn last_letter(more: bool) -> u8
 }
 
 fn put_last(more: bool, n: usize, out: &mut [u8]) -> usize
-    ensures { λ r. ⌜ Poured (now (out .entry)) 0 (lastLine more n) r (now (out .exit)) ⌝ }
+    ensures { λ r. ⌜ Put (now (out .entry)) 0 (lastLine more n) r (now (out .exit)) ⌝ }
 {
     let next = put_opening(last_letter(more), n, out);
     put(b'\n', out, next)
@@ -297,7 +233,7 @@ pub fn line(item: Item, start: usize, list: &[i32], out: &mut [u8]) -> Written
 {
     let size = put_line(item, start, list, &mut out[..0]);
     if size > out.len() {
-        return Written::NotWritten(Refusal::TooShort);
+        return Written::Refused(Refusal::TooShort);
     }
     let next = put_line(item, start, list, out);
     Written::Next(next)
@@ -309,7 +245,7 @@ pub fn last_line(more: bool, n: usize, out: &mut [u8]) -> Written
 {
     let size = put_last(more, n, &mut out[..0]);
     if size > out.len() {
-        return Written::NotWritten(Refusal::TooShort);
+        return Written::Refused(Refusal::TooShort);
     }
     let next = put_last(more, n, out);
     Written::Next(next)

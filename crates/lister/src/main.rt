@@ -20,19 +20,25 @@ fn behind(item: Item, start: usize, kept: Remembered) -> Going {
             start: start,
             kept: kept,
         },
-        Item::Text(_, next) => Going {
-            start: next,
+        Item::Text(text) => Going {
+            start: text.next,
             kept: kept,
         },
-        Item::Done(_, _, next, after) => Going {
-            start: next,
-            kept: after,
-        },
-        Item::Refused(_, _, next, before) => Going {
-            start: next,
-            kept: before,
-        },
-        Item::NotRead(_, _) => Going {
+        Item::Command(taken) => {
+            let after = taken.kept;
+            Going {
+                start: taken.next,
+                kept: after,
+            }
+        }
+        Item::RefusedCommand(refused) => {
+            let before = refused.kept;
+            Going {
+                start: refused.next,
+                kept: before,
+            }
+        }
+        Item::Refused(_, _) => Going {
             start: start,
             kept: kept,
         },
@@ -47,7 +53,7 @@ fn print(written: Written, out: &[u8]) {
                 io::write_all(STDOUT_FILENO, &out[..n]);
             }
         }
-        Written::NotWritten(_) => {}
+        Written::Refused(_) => {}
     }
 }
 

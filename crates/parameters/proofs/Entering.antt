@@ -14,32 +14,36 @@ use Rattle.refusals.specs.Refusals.{numberOf}
 use Rattle.refusals.specs.Answers.{Answer, done, refused, Read, endsAfter, allAfter}
 use Rattle.refusals.proofs.Cases.{by-then, Done, done-of, done-map, is-done, not-done}
 use Rattle.refusals.proofs.Many as many
+use Rattle.wire.specs.declared.TakenByte.{TakenByte}
 use Rattle.wire.specs.declared.ByteRead.{ByteRead}
-use Rattle.wire.specs.declared.ByteRead.the-variants.{Byte, NoByte}
+use Rattle.wire.specs.declared.ByteRead.the-variants.{Byte}
 use Rattle.wire.specs.Taking.{byteAt, byteOf}
 use Rattle.wire.proofs.Feeds.{byte-given, none-given}
+use Rattle.numbers.specs.declared.TakenInteger.{TakenInteger}
+use Rattle.numbers.specs.declared.TakenCount.{TakenCount}
 use Rattle.numbers.specs.declared.IntegerRead.{IntegerRead}
-use Rattle.numbers.specs.declared.IntegerRead.the-variants.{Integer, NoInteger}
+use Rattle.numbers.specs.declared.IntegerRead.the-variants.{Integer}
 use Rattle.numbers.specs.declared.CountRead.{CountRead}
-use Rattle.numbers.specs.declared.CountRead.the-variants.{Count, NoCount}
+use Rattle.numbers.specs.declared.CountRead.the-variants.{Count}
 use Rattle.numbers.specs.Integers.{integerOf, integerAt}
 use Rattle.numbers.specs.Counts.{countAt, countOf}
 use Rattle.numbers.proofs.Shortest.{count-shown}
 use Rattle.parameters.specs.declared.Entry.{Entry}
 use Rattle.parameters.specs.declared.Entry.the-variants.{AnInteger, ACharacter}
 use Rattle.parameters.specs.declared.EntriesEnd.{EntriesEnd}
-use Rattle.parameters.specs.declared.EntriesEnd.the-variants.{End, Cut}
-use Rattle.parameters.specs.declared.RunRead.the-variants.{Counted, Uncounted}
-use Rattle.parameters.specs.Entries.{entryAt, entriesEnd, entriesFrom, endOf, runOf, runAt, handed, afterRun}
+use Rattle.parameters.specs.declared.EntriesEnd.the-variants.{End}
+use Rattle.parameters.specs.declared.RunRead.{RunRead}
+use Rattle.parameters.specs.declared.RunRead.the-variants.{Counted}
+use Rattle.parameters.specs.Entries.{entryAt, entriesEnd, entryValues, entriesEndOf, runOf, runAt, handed, afterRun}
 
 -- ---- one entry
 
 module _ (kept : Remembered) (s : List ℕ) (at : ℕ) where
-  pub character-is : (x : ℤ) {y : ℤ} {r : ByteRead} {b p n : ℕ} → byteOf r ≡ byteAt kept s at → r ≡ Byte b p n → y ≡ pos b → x ≡ y → integerOf (Integer x p n) ≡ entryAt ACharacter kept s at
+  pub character-is : (x : ℤ) {y : ℤ} {r : ByteRead} {b : TakenByte} → byteOf r ≡ byteAt kept s at → r ≡ Byte b → y ≡ pos (b .value) → x ≡ y → integerOf (Integer (record { value = x; place = b .place; next = b .next })) ≡ entryAt ACharacter kept s at
   unfolding entryAt integerOf
   character-is x e g j i = rw (i, j, byte-given kept s at e g)
 
-  pub character-no : {r : ByteRead} {x : Refusal} {p : ℕ} → byteOf r ≡ byteAt kept s at → r ≡ NoByte x p → integerOf (NoInteger x p) ≡ entryAt ACharacter kept s at
+  pub character-no : {r : ByteRead} {x : Refusal} {p : ℕ} → byteOf r ≡ byteAt kept s at → r ≡ ByteRead.Refused x p → integerOf (IntegerRead.Refused x p) ≡ entryAt ACharacter kept s at
   unfolding entryAt integerOf
   character-no e g = rw (none-given kept s at e g)
 
@@ -53,11 +57,11 @@ module _ (kept : Remembered) (s : List ℕ) (at : ℕ) where
 pub ruleset entries = (character-is, character-no, integer-entry, character-entry)
 
 -- what a caller of `read_entry` has in hand
-pub entry-given : (e : Entry) (kept : Remembered) (s : List ℕ) (at : ℕ) {r : IntegerRead} {v : ℤ} {p n : ℕ} → integerOf r ≡ entryAt e kept s at → r ≡ Integer v p n → entryAt e kept s at ≡ done (record { value = v; place = p; next = n })
+pub entry-given : (e : Entry) (kept : Remembered) (s : List ℕ) (at : ℕ) {r : IntegerRead} {i : TakenInteger} → integerOf r ≡ entryAt e kept s at → r ≡ Integer i → entryAt e kept s at ≡ done (record { value = i .value; place = i .place; next = i .next })
 unfolding integerOf
 entry-given e kept s at q g = sym q ∙ rw g
 
-pub entry-none : (e : Entry) (kept : Remembered) (s : List ℕ) (at : ℕ) {r : IntegerRead} {x : Refusal} {p : ℕ} → integerOf r ≡ entryAt e kept s at → r ≡ NoInteger x p → entryAt e kept s at ≡ refused (numberOf x) p
+pub entry-none : (e : Entry) (kept : Remembered) (s : List ℕ) (at : ℕ) {r : IntegerRead} {x : Refusal} {p : ℕ} → integerOf r ≡ entryAt e kept s at → r ≡ IntegerRead.Refused x p → entryAt e kept s at ≡ refused (numberOf x) p
 unfolding integerOf
 entry-none e kept s at q g = sym q ∙ rw g
 
@@ -75,16 +79,16 @@ reading-none e kept s at count l =
     record { upto = omega arith; filling = many.filling-none (entryAt e kept s) at count l; rest = rw z }
 
 module _ (e : Entry) (kept : Remembered) (s : List ℕ) (at count : ℕ) (l₀ l : List ℤ) (i n : ℕ) (f : Reading e kept s at count l₀ l i n) where
-  pub reading-end : count ≤ i → endOf (End n) ≡ entriesEnd e kept count s at
-  unfolding endOf
+  pub reading-end : count ≤ i → entriesEndOf (End n) ≡ entriesEnd e kept count s at
+  unfolding entriesEndOf
   reading-end h = many.passed-all (entryAt e kept s) (count - i) n (omega arith) (f .rest)
 
-  pub reading-all : count ≤ i → l ≡ sets l₀ 0 (entriesFrom e kept count s at)
+  pub reading-all : count ≤ i → l ≡ sets l₀ 0 (entryValues e kept count s at)
   reading-all h = many.filling-end (entryAt e kept s) at count l₀ l i n (f .filling) h
 
   module _ {r : IntegerRead} (g : integerOf r ≡ entryAt e kept s n) where
-    pub reading-more : (x : ℤ) {v : ℤ} {p m : ℕ} → i < count → r ≡ Integer v p m → x ≡ v → Reading e kept s at count l₀ (set l i x) (i + 1) m
-    reading-more x {v} {m = m} h k j =
+    pub reading-more : (x : ℤ) {v : TakenInteger} → i < count → r ≡ Integer v → x ≡ v .value → Reading e kept s at count l₀ (set l i x) (i + 1) (v .next)
+    reading-more x h k j =
         let z : count - i - 1 ≡ count - (i + 1) = omega arith in
         let one = entry-given e kept s n g k in
         record {
@@ -93,11 +97,11 @@ module _ (e : Entry) (kept : Remembered) (s : List ℕ) (at count : ℕ) (l₀ l
           rest = rw z at (many.passed-one (entryAt e kept s) (count - i) n one (omega arith) (f .rest));
         }
 
-    pub reading-cut : {x : Refusal} {p : ℕ} → i < count → r ≡ NoInteger x p → endOf (Cut x p) ≡ entriesEnd e kept count s at
-    unfolding endOf
+    pub reading-cut : {x : Refusal} {p : ℕ} → i < count → r ≡ IntegerRead.Refused x p → entriesEndOf (EntriesEnd.Refused x p) ≡ entriesEnd e kept count s at
+    unfolding entriesEndOf
     reading-cut h k = many.passed-none (entryAt e kept s) (count - i) n (entry-none e kept s n g k) (omega arith) (f .rest)
 
-    pub reading-some : {x : Refusal} {p : ℕ} → r ≡ NoInteger x p → l ≡ sets l₀ 0 (entriesFrom e kept count s at)
+    pub reading-some : {x : Refusal} {p : ℕ} → r ≡ IntegerRead.Refused x p → l ≡ sets l₀ 0 (entryValues e kept count s at)
     reading-some k = many.filling-cut (entryAt e kept s) at count l₀ l i n (f .filling) (entry-none e kept s n g k)
 
 pub ruleset readings = (reading-none, reading-end, reading-all, reading-more, reading-cut, reading-some)
@@ -159,50 +163,51 @@ front-is : (es z : List ℤ) (k : ℕ) → length es ≡ k → k ≤ length z �
 front-is es z k e h =
     ap (λ (m : List ℤ). take k m) (sets-eq es z 0 (omega (arith, e))) ∙ take-at es (drop (0 + length es) z) k e
 
-module _ (kept : Remembered) (s : List ℕ) (at : ℕ) {c : CountRead} (ec : countOf c ≡ countAt kept s at) {k p n : ℕ} (g : c ≡ Count k p n) where
-  count-given : countAt kept s at ≡ done (record { value = k; place = p; next = n })
+module _ (kept : Remembered) (s : List ℕ) (at : ℕ) {c : CountRead} (ec : countOf c ≡ countAt kept s at) {k : TakenCount} (g : c ≡ Count k) where
+  count-given : countAt kept s at ≡ done (record { value = k .value; place = k .place; next = k .next })
   unfolding countOf
   count-given = sym ec ∙ rw g
 
-  pub count-few : k ≤ 256
+  pub count-few : k .value ≤ 256
   count-few = count-shown kept s at count-given .writable
 
-  pub count-there : (z vs : List ℤ) {es : List ℤ} → length z ≡ 256 → es ≡ sets z 0 vs → k ≤ length es
+  pub count-there : (z vs : List ℤ) {es : List ℤ} → length z ≡ 256 → es ≡ sets z 0 vs → k .value ≤ length es
   count-there z vs h e = rw (e, length-sets z 0 vs, h) count-few
 
 module _ (e : Entry) (kept : Remembered) (s : List ℕ) (at : ℕ) {c : CountRead} (ec : countOf c ≡ countAt kept s at) where
-  pub run-no : {x : Refusal} {p : ℕ} → c ≡ NoCount x p → runOf (Uncounted x p) ≡ runAt e kept s at
+  pub run-no : {x : Refusal} {p : ℕ} → c ≡ CountRead.Refused x p → runOf (RunRead.Refused x p) ≡ runAt e kept s at
   unfolding runAt runOf countOf
   run-no g = rw (← ec, g)
 
-  pub kept-no : (l : List ℤ) {x : Refusal} {p : ℕ} → c ≡ NoCount x p → l ≡ afterRun e kept s (runAt e kept s at) l
+  pub kept-no : (l : List ℤ) {x : Refusal} {p : ℕ} → c ≡ CountRead.Refused x p → l ≡ afterRun e kept s (runAt e kept s at) l
   unfolding runAt afterRun countOf
   kept-no l g = rw (← ec, g)
 
-  module _ {k p n : ℕ} (g : c ≡ Count k p n) where
-    module _ {t : EntriesEnd} (et : endOf t ≡ entriesEnd e kept k s n) where
-      pub run-cut : {x : Refusal} {q : ℕ} → t ≡ Cut x q → runOf (Uncounted x q) ≡ runAt e kept s at
-      unfolding runAt runOf countOf endOf
+  module _ {k : TakenCount} (g : c ≡ Count k) where
+    module _ {t : EntriesEnd} (et : entriesEndOf t ≡ entriesEnd e kept (k .value) s (k .next)) where
+      pub run-cut : {x : Refusal} {q : ℕ} → t ≡ EntriesEnd.Refused x q → runOf (RunRead.Refused x q) ≡ runAt e kept s at
+      unfolding runAt runOf countOf entriesEndOf
       run-cut h = rw (← ec, g, ← et, h)
 
-      pub kept-cut : (l : List ℤ) {x : Refusal} {q : ℕ} → t ≡ Cut x q → l ≡ afterRun e kept s (runAt e kept s at) l
-      unfolding runAt afterRun countOf endOf
+      pub kept-cut : (l : List ℤ) {x : Refusal} {q : ℕ} → t ≡ EntriesEnd.Refused x q → l ≡ afterRun e kept s (runAt e kept s at) l
+      unfolding runAt afterRun countOf entriesEndOf
       kept-cut l h = rw (← ec, g, ← et, h)
 
-      pub run-whole : {m : ℕ} → t ≡ End m → runOf (Counted (record { start = n; count = k }) m) ≡ runAt e kept s at
-      unfolding runAt runOf countOf endOf
+      pub run-whole : {m : ℕ} → t ≡ End m → runOf (Counted (record { start = k .next; count = k .value }) m) ≡ runAt e kept s at
+      unfolding runAt runOf countOf entriesEndOf
       run-whole h = rw (← ec, g, ← et, h)
 
-      ended : {m : ℕ} → t ≡ End m → entriesEnd e kept k s n ≡ done m
-      unfolding endOf
+      ended : {m : ℕ} → t ≡ End m → entriesEnd e kept (k .value) s (k .next) ≡ done m
+      unfolding entriesEndOf
       ended h = sym et ∙ rw h
 
-      pub run-handed : (l z : List ℤ) {es o : List ℤ} {m : ℕ} → t ≡ End m → length z ≡ 256 → es ≡ sets z 0 (entriesFrom e kept k s n) → o ≡ handed k (take k es) l → o ≡ afterRun e kept s (runAt e kept s at) l
-      unfolding runAt afterRun countOf endOf
+      pub run-handed : (l z : List ℤ) {es o : List ℤ} {m : ℕ} → t ≡ End m → length z ≡ 256 → es ≡ sets z 0 (entryValues e kept (k .value) s (k .next)) → o ≡ handed (k .value) (take (k .value) es) l → o ≡ afterRun e kept s (runAt e kept s at) l
+      unfolding runAt afterRun countOf entriesEndOf
       run-handed l z h y q j =
-          let all = entriesFrom e kept k s n in
-          let long : length all ≡ k = done-of (λ x. length (allAfter (entryAt e kept s) k n) ≡ k) (all-read (entryAt e kept s) k n) (ended h) in
-          let front = front-is all z k long (omega (arith, y, count-few kept s at ec g)) in
-          j ∙ ap (λ (w : List ℤ). handed k (take k w) l) q ∙ ap (λ (w : List ℤ). handed k w l) front ∙ rw (← ec, g, ← et, h)
+          let n = k .value in
+          let all = entryValues e kept n s (k .next) in
+          let long : length all ≡ n = done-of (λ x. length (allAfter (entryAt e kept s) n (k .next)) ≡ n) (all-read (entryAt e kept s) n (k .next)) (ended h) in
+          let front = front-is all z n long (omega (arith, y, count-few kept s at ec g)) in
+          j ∙ ap (λ (w : List ℤ). handed n (take n w) l) q ∙ ap (λ (w : List ℤ). handed n w l) front ∙ rw (← ec, g, ← et, h)
 
 pub ruleset runs = (count-few, count-there, run-no, kept-no, run-cut, kept-cut, run-whole, run-handed)

@@ -1,3 +1,4 @@
 pub mod Entering
 pub mod Looks
 pub mod Coinciding
+pub mod Numbered

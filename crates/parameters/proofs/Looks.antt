@@ -6,18 +6,19 @@ use native.Mathlib.Omega.{arith}
 use borrow.Author.Tests.{le-leb}
 use lib.ListN.{length}
 use lib.IntN.{ℤ}
-use Rattle.memory.specs.declared.Point.{Point}
 use Rattle.memory.specs.declared.Remembered.{Remembered}
 use Rattle.memory.specs.Memory.{remember}
 use Rattle.refusals.specs.declared.Refusal.{Refusal}
 use Rattle.refusals.specs.Refusals.{numberOf}
 use Rattle.refusals.specs.Answers.{Answer, done, refused, Read, then, allAfter}
 use Rattle.refusals.proofs.Cases.{by-then}
+use Rattle.numbers.specs.declared.TakenInteger.{TakenInteger}
 use Rattle.numbers.specs.declared.IntegerRead.{IntegerRead}
-use Rattle.numbers.specs.declared.IntegerRead.the-variants.{Integer, NoInteger}
+use Rattle.numbers.specs.declared.IntegerRead.the-variants.{Integer}
 use Rattle.numbers.specs.Integers.{integerOf, integerAt}
+use Rattle.points.specs.declared.TakenPoint.{TakenPoint}
 use Rattle.points.specs.declared.PointRead.{PointRead}
-use Rattle.points.specs.declared.PointRead.the-variants.{At, NoPoint}
+use Rattle.points.specs.declared.PointRead.the-variants.{At}
 use Rattle.points.specs.Reading.{pointOf, pointAt}
 use Rattle.table.specs.declared.Kind.{Kind}
 use Rattle.table.specs.declared.Kind.the-variants as K
@@ -25,34 +26,37 @@ use Rattle.parameters.specs.declared.Entry.{Entry}
 use Rattle.parameters.specs.declared.Entry.the-variants.{AnInteger, ACharacter}
 use Rattle.parameters.specs.declared.Run.{Run}
 use Rattle.parameters.specs.declared.Parameters.{Parameters}
-use Rattle.parameters.specs.declared.Parameters.the-variants.{Single, Double, Triple, OnePoint, Corners, Scale, Letters}
-use Rattle.parameters.specs.declared.PairRead.{PairRead}
-use Rattle.parameters.specs.declared.PairRead.the-variants.{Both, NotBoth}
+use Rattle.parameters.specs.declared.Parameters.the-variants.{OneInteger, TwoIntegers, ThreeIntegers, OnePoint, TwoPoints, AReal, TwoCharacters}
+use Rattle.parameters.specs.declared.TwoEntriesRead.{TwoEntriesRead}
+use Rattle.parameters.specs.declared.TwoEntriesRead.the-variants.{Both}
 use Rattle.parameters.specs.declared.RunRead.{RunRead}
-use Rattle.parameters.specs.declared.RunRead.the-variants.{Counted, Uncounted}
-use Rattle.parameters.specs.declared.Look.the-variants.{Whole, Broken}
-use Rattle.parameters.specs.Entries.{entryAt, Held, runOf, runAt, handed, afterRun}
-use Rattle.parameters.specs.Shapes.{Part, single, point, Tail, none, counted, Shape, shapeOf, listShape, numberedShape, Value, number, listed, numbered}
-use Rattle.parameters.specs.Looking.{Pair, pairAt, pairOf, Fixed, partAt, fixedAt, tailAt, Parsed, parametersAt, lookOf, afterLook}
+use Rattle.parameters.specs.declared.RunRead.the-variants.{Counted}
+use Rattle.parameters.specs.declared.ParametersRead.{ParametersRead}
+use Rattle.parameters.specs.declared.ParametersRead.the-variants.{Whole}
+use Rattle.parameters.specs.declared.Tail.{Tail}
+use Rattle.parameters.specs.declared.Tail.the-variants.{NoList, ListOf}
+use Rattle.parameters.specs.Entries.{entryAt, CountedRun, runOf, runAt, handed, afterRun}
+use Rattle.parameters.specs.Shapes.{Part, single, point, Shape, shapeOf, listShape, integerThenListShape, Value, number, onlyList, integerThenList}
+use Rattle.parameters.specs.Looking.{TwoEntries, twoEntriesAt, twoEntriesOf, Fixed, partAt, fixedAt, tailAt, Parsed, parametersAt, lookOf, afterLook}
 use Rattle.parameters.proofs.Entering.{entry-given, entry-none}
 
 -- ---- two entries
 
 module _ (e : Entry) (kept : Remembered) (s : List ℕ) (at : ℕ) {r : IntegerRead} (er : integerOf r ≡ entryAt e kept s at) where
-  pub pair-no : {x : Refusal} {p : ℕ} → r ≡ NoInteger x p → pairOf (NotBoth x p) ≡ pairAt e kept s at
-  unfolding pairAt pairOf
-  pair-no g = rw (entry-none e kept s at er g)
+  pub two-entries-no : {x : Refusal} {p : ℕ} → r ≡ IntegerRead.Refused x p → twoEntriesOf (TwoEntriesRead.Refused x p) ≡ twoEntriesAt e kept s at
+  unfolding twoEntriesAt twoEntriesOf
+  two-entries-no g = rw (entry-none e kept s at er g)
 
-  module _ {v : ℤ} {p n : ℕ} (g : r ≡ Integer v p n) {q : IntegerRead} (eq : integerOf q ≡ entryAt e kept s n) where
-    pub pair-half : {x : Refusal} {p₂ : ℕ} → q ≡ NoInteger x p₂ → pairOf (NotBoth x p₂) ≡ pairAt e kept s at
-    unfolding pairAt pairOf
-    pair-half h = rw (entry-given e kept s at er g, entry-none e kept s n eq h)
+  module _ {i : TakenInteger} (g : r ≡ Integer i) {q : IntegerRead} (eq : integerOf q ≡ entryAt e kept s (i .next)) where
+    pub two-entries-half : {x : Refusal} {p₂ : ℕ} → q ≡ IntegerRead.Refused x p₂ → twoEntriesOf (TwoEntriesRead.Refused x p₂) ≡ twoEntriesAt e kept s at
+    unfolding twoEntriesAt twoEntriesOf
+    two-entries-half h = rw (entry-given e kept s at er g, entry-none e kept s (i .next) eq h)
 
-    pub pair-both : (x y : ℤ) {w : ℤ} {p₂ m : ℕ} → q ≡ Integer w p₂ m → x ≡ v → y ≡ w → pairOf (Both x y m) ≡ pairAt e kept s at
-    unfolding pairAt pairOf
-    pair-both x y h i j = rw (i, j, entry-given e kept s at er g, entry-given e kept s n eq h)
+    pub two-entries-both : (x y : ℤ) {j : TakenInteger} → q ≡ Integer j → x ≡ i .value → y ≡ j .value → twoEntriesOf (Both x y (j .next)) ≡ twoEntriesAt e kept s at
+    unfolding twoEntriesAt twoEntriesOf
+    two-entries-both x y h ex ey = rw (ex, ey, entry-given e kept s at er g, entry-given e kept s (i .next) eq h)
 
-pub ruleset pairs = (pair-no, pair-half, pair-both)
+pub ruleset two-entries = (two-entries-no, two-entries-half, two-entries-both)
 
 -- two single parts are a pair
 abbrev before : Value → Fixed → Answer Fixed
@@ -61,11 +65,11 @@ before v g = done (record { values = v ∷ g .values; next = g .next; kept = g .
 abbrev before2 : Value → Value → Fixed → Answer Fixed
 before2 v w g = done (record { values = v ∷ w ∷ g .values; next = g .next; kept = g .kept })
 
-abbrev paired : ℤ → Read ℤ → Answer Pair
-paired v i = done (record { one = v; two = i .value; next = i .next })
+abbrev both-entries : ℤ → Read ℤ → Answer TwoEntries
+both-entries v i = done (record { one = v; two = i .value; next = i .next })
 
-abbrev pairThen : Entry → (ℕ → Answer Fixed) → Pair → Answer Fixed
-pairThen e rest r = then (rest (r .next)) (before2 (number e (r .one)) (number e (r .two)))
+abbrev twoThen : Entry → (ℕ → Answer Fixed) → TwoEntries → Answer Fixed
+twoThen e rest r = then (rest (r .next)) (before2 (number e (r .one)) (number e (r .two)))
 
 abbrev alone : Entry → Remembered → Read ℤ → Answer Fixed
 alone e kept i = done (record { values = number e (i .value) ∷ []; next = i .next; kept = kept })
@@ -80,182 +84,185 @@ third-part : (v w : Value) (a : Answer Fixed) → then (then a (before w)) (befo
 third-part v w (done g) = refl
 third-part v w (refused x p) = refl
 
-second-part : (e : Entry) (kept : Remembered) (v : ℤ) (b : Answer (Read ℤ)) (rest : Remembered → ℕ → Answer Fixed) → then (partThen e kept b rest) (before (number e v)) ≡ then (then b (paired v)) (pairThen e (rest kept))
+second-part : (e : Entry) (kept : Remembered) (v : ℤ) (b : Answer (Read ℤ)) (rest : Remembered → ℕ → Answer Fixed) → then (partThen e kept b rest) (before (number e v)) ≡ then (then b (both-entries v)) (twoThen e (rest kept))
 second-part e kept v (refused x p) rest = refl
 second-part e kept v (done i) rest = third-part (number e v) (number e (i .value)) (rest kept (i .next))
 
-first-part : (e : Entry) (kept : Remembered) (a : Answer (Read ℤ)) (next : Remembered → ℕ → Answer (Read ℤ)) (rest : Remembered → ℕ → Answer Fixed) → partThen e kept a (λ k n. partThen e k (next k n) rest) ≡ then (then a (λ i. then (next kept (i .next)) (paired (i .value)))) (pairThen e (rest kept))
+first-part : (e : Entry) (kept : Remembered) (a : Answer (Read ℤ)) (next : Remembered → ℕ → Answer (Read ℤ)) (rest : Remembered → ℕ → Answer Fixed) → partThen e kept a (λ k n. partThen e k (next k n) rest) ≡ then (then a (λ i. then (next kept (i .next)) (both-entries (i .value)))) (twoThen e (rest kept))
 first-part e kept (refused x p) next rest = refl
 first-part e kept (done i) next rest = second-part e kept (i .value) (next kept (i .next)) rest
 
-pub as-pair : (e : Entry) (kept : Remembered) (ps : List Part) (s : List ℕ) (at : ℕ) → fixedAt kept (single e ∷ single e ∷ ps) s at ≡ then (pairAt e kept s at) (pairThen e (λ n. fixedAt kept ps s n))
-unfolding fixedAt partAt pairAt
-as-pair e kept ps s at = first-part e kept (entryAt e kept s at) (λ k n. entryAt e k s n) (λ k n. fixedAt k ps s n)
+pub as-two-entries : (e : Entry) (kept : Remembered) (ps : List Part) (s : List ℕ) (at : ℕ) → fixedAt kept (single e ∷ single e ∷ ps) s at ≡ then (twoEntriesAt e kept s at) (twoThen e (λ n. fixedAt kept ps s n))
+unfolding fixedAt partAt twoEntriesAt
+as-two-entries e kept ps s at = first-part e kept (entryAt e kept s at) (λ k n. entryAt e k s n) (λ k n. fixedAt k ps s n)
 
 -- ---- kinds without a list
 
-abbrev no-run : Run
-no-run = record { start = 0; count = 0 }
+abbrev without : Parameters → ℕ → Remembered → ParametersRead
+without ps n kept = Whole (record { parameters = ps; run = record { start = 0; count = 0 }; next = n; kept = kept })
 
 module _ (kept : Remembered) (s : List ℕ) (at : ℕ) where
   module _ {r : IntegerRead} (er : integerOf r ≡ integerAt kept s at) where
-    given : {v : ℤ} {p n : ℕ} → r ≡ Integer v p n → integerAt kept s at ≡ done (record { value = v; place = p; next = n })
+    given : {v : TakenInteger} → r ≡ Integer v → integerAt kept s at ≡ done (record { value = v .value; place = v .place; next = v .next })
     unfolding integerOf
     given g = sym er ∙ rw g
 
-    pub single-no : {x : Refusal} {p : ℕ} → r ≡ NoInteger x p → lookOf (Broken x p) ≡ parametersAt kept (shapeOf K.AnInteger) s at
+    pub one-integer-no : {x : Refusal} {p : ℕ} → r ≡ IntegerRead.Refused x p → lookOf (ParametersRead.Refused x p) ≡ parametersAt kept (shapeOf K.OneInteger) s at
     unfolding parametersAt fixedAt partAt entryAt lookOf integerOf
-    single-no g = rw (← er, g)
+    one-integer-no g = rw (← er, g)
 
-    pub single-is : (x : ℤ) {v : ℤ} {p n : ℕ} {w : Run} → r ≡ Integer v p n → x ≡ v → w ≡ no-run → lookOf (Whole (Single x) w n kept) ≡ parametersAt kept (shapeOf K.AnInteger) s at
+    pub one-integer-is : (x : ℤ) {v : TakenInteger} {t : ParametersRead} → r ≡ Integer v → x ≡ v .value → t ≡ without (OneInteger x) (v .next) kept → lookOf t ≡ parametersAt kept (shapeOf K.OneInteger) s at
     unfolding parametersAt fixedAt partAt entryAt tailAt lookOf
-    single-is x g i j = rw (i, j, given g)
+    one-integer-is x g i j = rw (j, i, given g)
 
-  module _ (e : Entry) {r : PairRead} (er : pairOf r ≡ pairAt e kept s at) where
-    both : {v w : ℤ} {n : ℕ} → r ≡ Both v w n → pairAt e kept s at ≡ done (record { one = v; two = w; next = n })
-    unfolding pairOf
+  module _ (e : Entry) {r : TwoEntriesRead} (er : twoEntriesOf r ≡ twoEntriesAt e kept s at) where
+    both : {v w : ℤ} {n : ℕ} → r ≡ Both v w n → twoEntriesAt e kept s at ≡ done (record { one = v; two = w; next = n })
+    unfolding twoEntriesOf
     both g = sym er ∙ rw g
 
-    not-both : {x : Refusal} {p : ℕ} → r ≡ NotBoth x p → pairAt e kept s at ≡ refused (numberOf x) p
-    unfolding pairOf
+    not-both : {x : Refusal} {p : ℕ} → r ≡ TwoEntriesRead.Refused x p → twoEntriesAt e kept s at ≡ refused (numberOf x) p
+    unfolding twoEntriesOf
     not-both g = sym er ∙ rw g
 
-  module _ {r : PairRead} (er : pairOf r ≡ pairAt AnInteger kept s at) where
-    pub double-no : {x : Refusal} {p : ℕ} → r ≡ NotBoth x p → lookOf (Broken x p) ≡ parametersAt kept (shapeOf K.TwoIntegers) s at
+  module _ {r : TwoEntriesRead} (er : twoEntriesOf r ≡ twoEntriesAt AnInteger kept s at) where
+    pub two-integers-no : {x : Refusal} {p : ℕ} → r ≡ TwoEntriesRead.Refused x p → lookOf (ParametersRead.Refused x p) ≡ parametersAt kept (shapeOf K.TwoIntegers) s at
     unfolding parametersAt lookOf
-    double-no g = rw (as-pair AnInteger kept [] s at, not-both AnInteger er g)
+    two-integers-no g = rw (as-two-entries AnInteger kept [] s at, not-both AnInteger er g)
 
-    pub double-is : (x y : ℤ) {v w : ℤ} {n : ℕ} {z : Run} → r ≡ Both v w n → x ≡ v → y ≡ w → z ≡ no-run → lookOf (Whole (Double x y) z n kept) ≡ parametersAt kept (shapeOf K.TwoIntegers) s at
+    pub two-integers-is : (x y : ℤ) {v w : ℤ} {n : ℕ} {t : ParametersRead} → r ≡ Both v w n → x ≡ v → y ≡ w → t ≡ without (TwoIntegers x y) n kept → lookOf t ≡ parametersAt kept (shapeOf K.TwoIntegers) s at
     unfolding parametersAt fixedAt tailAt lookOf
-    double-is x y g i j k = rw (i, j, k, as-pair AnInteger kept [] s at, both AnInteger er g)
+    two-integers-is x y g i j k = rw (k, i, j, as-two-entries AnInteger kept [] s at, both AnInteger er g)
 
-    pub scale-no : {x : Refusal} {p : ℕ} → r ≡ NotBoth x p → lookOf (Broken x p) ≡ parametersAt kept (shapeOf K.AReal) s at
+    pub real-no : {x : Refusal} {p : ℕ} → r ≡ TwoEntriesRead.Refused x p → lookOf (ParametersRead.Refused x p) ≡ parametersAt kept (shapeOf K.AReal) s at
     unfolding parametersAt fixedAt partAt lookOf
-    scale-no g = rw (not-both AnInteger er g)
+    real-no g = rw (not-both AnInteger er g)
 
-    pub scale-is : (x y : ℤ) {v w : ℤ} {n : ℕ} {z : Run} → r ≡ Both v w n → x ≡ v → y ≡ w → z ≡ no-run → lookOf (Whole (Scale (record { mantissa = x; exponent = y })) z n kept) ≡ parametersAt kept (shapeOf K.AReal) s at
+    pub real-is : (x y : ℤ) {v w : ℤ} {n : ℕ} {t : ParametersRead} → r ≡ Both v w n → x ≡ v → y ≡ w → t ≡ without (AReal (record { mantissa = x; exponent = y })) n kept → lookOf t ≡ parametersAt kept (shapeOf K.AReal) s at
     unfolding parametersAt fixedAt partAt tailAt lookOf
-    scale-is x y g i j k = rw (i, j, k, both AnInteger er g)
+    real-is x y g i j k = rw (k, i, j, both AnInteger er g)
 
-    pub triple-no : {x : Refusal} {p : ℕ} → r ≡ NotBoth x p → lookOf (Broken x p) ≡ parametersAt kept (shapeOf K.ThreeIntegers) s at
+    pub three-integers-no : {x : Refusal} {p : ℕ} → r ≡ TwoEntriesRead.Refused x p → lookOf (ParametersRead.Refused x p) ≡ parametersAt kept (shapeOf K.ThreeIntegers) s at
     unfolding parametersAt lookOf
-    triple-no g = rw (as-pair AnInteger kept (single AnInteger ∷ []) s at, not-both AnInteger er g)
+    three-integers-no g = rw (as-two-entries AnInteger kept (single AnInteger ∷ []) s at, not-both AnInteger er g)
 
     module _ {v w : ℤ} {n : ℕ} (g : r ≡ Both v w n) {q : IntegerRead} (eq : integerOf q ≡ integerAt kept s n) where
-      pub triple-short : {x : Refusal} {p : ℕ} → q ≡ NoInteger x p → lookOf (Broken x p) ≡ parametersAt kept (shapeOf K.ThreeIntegers) s at
+      pub three-integers-short : {x : Refusal} {p : ℕ} → q ≡ IntegerRead.Refused x p → lookOf (ParametersRead.Refused x p) ≡ parametersAt kept (shapeOf K.ThreeIntegers) s at
       unfolding parametersAt fixedAt partAt entryAt lookOf integerOf
-      triple-short h = rw (as-pair AnInteger kept (single AnInteger ∷ []) s at, both AnInteger er g, ← eq, h)
+      three-integers-short h = rw (as-two-entries AnInteger kept (single AnInteger ∷ []) s at, both AnInteger er g, ← eq, h)
 
-      pub triple-is : (x y z : ℤ) {u : ℤ} {p m : ℕ} {o : Run} → q ≡ Integer u p m → x ≡ v → y ≡ w → z ≡ u → o ≡ no-run → lookOf (Whole (Triple x y z) o m kept) ≡ parametersAt kept (shapeOf K.ThreeIntegers) s at
+      pub three-integers-is : (x y z : ℤ) {u : TakenInteger} {t : ParametersRead} → q ≡ Integer u → x ≡ v → y ≡ w → z ≡ u .value → t ≡ without (ThreeIntegers x y z) (u .next) kept → lookOf t ≡ parametersAt kept (shapeOf K.ThreeIntegers) s at
       unfolding parametersAt fixedAt partAt entryAt tailAt lookOf integerOf
-      triple-is x y z h i j k l = rw (i, j, k, l, as-pair AnInteger kept (single AnInteger ∷ []) s at, both AnInteger er g, ← eq, h)
+      three-integers-is x y z h i j k l = rw (l, i, j, k, as-two-entries AnInteger kept (single AnInteger ∷ []) s at, both AnInteger er g, ← eq, h)
 
-  module _ {r : PairRead} (er : pairOf r ≡ pairAt ACharacter kept s at) where
-    pub letters-no : {x : Refusal} {p : ℕ} → r ≡ NotBoth x p → lookOf (Broken x p) ≡ parametersAt kept (shapeOf K.TwoCharacters) s at
+  module _ {r : TwoEntriesRead} (er : twoEntriesOf r ≡ twoEntriesAt ACharacter kept s at) where
+    pub two-characters-no : {x : Refusal} {p : ℕ} → r ≡ TwoEntriesRead.Refused x p → lookOf (ParametersRead.Refused x p) ≡ parametersAt kept (shapeOf K.TwoCharacters) s at
     unfolding parametersAt lookOf
-    letters-no g = rw (as-pair ACharacter kept [] s at, not-both ACharacter er g)
+    two-characters-no g = rw (as-two-entries ACharacter kept [] s at, not-both ACharacter er g)
 
-    pub letters-is : (x y : ℤ) {v w : ℤ} {n : ℕ} {z : Run} → r ≡ Both v w n → x ≡ v → y ≡ w → z ≡ no-run → lookOf (Whole (Letters x y) z n kept) ≡ parametersAt kept (shapeOf K.TwoCharacters) s at
+    pub two-characters-is : (x y : ℤ) {v w : ℤ} {n : ℕ} {t : ParametersRead} → r ≡ Both v w n → x ≡ v → y ≡ w → t ≡ without (TwoCharacters x y) n kept → lookOf t ≡ parametersAt kept (shapeOf K.TwoCharacters) s at
     unfolding parametersAt fixedAt tailAt lookOf
-    letters-is x y g i j k = rw (i, j, k, as-pair ACharacter kept [] s at, both ACharacter er g)
+    two-characters-is x y g i j k = rw (k, i, j, as-two-entries ACharacter kept [] s at, both ACharacter er g)
 
   module _ {r : PointRead} (er : pointOf r ≡ pointAt kept s at) where
-    pub point-no : {x : Refusal} {p : ℕ} → r ≡ NoPoint x p → lookOf (Broken x p) ≡ parametersAt kept (shapeOf K.APoint) s at
+    pub one-point-no : {x : Refusal} {p : ℕ} → r ≡ PointRead.Refused x p → lookOf (ParametersRead.Refused x p) ≡ parametersAt kept (shapeOf K.OnePoint) s at
     unfolding parametersAt fixedAt partAt lookOf pointOf
-    point-no g = rw (← er, g)
+    one-point-no g = rw (← er, g)
 
-    pub point-is : {v : Point} {p n : ℕ} {w : Run} {k : Remembered} → r ≡ At v p n → w ≡ no-run → k ≡ remember kept v → lookOf (Whole (OnePoint v) w n k) ≡ parametersAt kept (shapeOf K.APoint) s at
+    pub one-point-is : {v : TakenPoint} {t : ParametersRead} {k : Remembered} → r ≡ At v → t ≡ without (OnePoint (v .value)) (v .next) k → k ≡ remember kept (v .value) → lookOf t ≡ parametersAt kept (shapeOf K.OnePoint) s at
     unfolding parametersAt fixedAt partAt tailAt lookOf pointOf
-    point-is g i j = rw (i, j, ← er, g)
+    one-point-is g i j = rw (i, j, ← er, g)
 
-    pub corners-no : {x : Refusal} {p : ℕ} → r ≡ NoPoint x p → lookOf (Broken x p) ≡ parametersAt kept (shapeOf K.TwoPoints) s at
+    pub two-points-no : {x : Refusal} {p : ℕ} → r ≡ PointRead.Refused x p → lookOf (ParametersRead.Refused x p) ≡ parametersAt kept (shapeOf K.TwoPoints) s at
     unfolding parametersAt fixedAt partAt lookOf pointOf
-    corners-no g = rw (← er, g)
+    two-points-no g = rw (← er, g)
 
-    module _ {v : Point} {p n : ℕ} (g : r ≡ At v p n) {k : Remembered} (ek : k ≡ remember kept v) (q : PointRead) (eq : pointOf q ≡ pointAt k s n) where
-      second : pointOf q ≡ pointAt (remember kept v) s n
+    module _ {v : TakenPoint} (g : r ≡ At v) {k : Remembered} (ek : k ≡ remember kept (v .value)) (q : PointRead) (eq : pointOf q ≡ pointAt k s (v .next)) where
+      second : pointOf q ≡ pointAt (remember kept (v .value)) s (v .next)
       second = rw ek at eq
 
-      pub corners-half : {x : Refusal} {p₂ : ℕ} → q ≡ NoPoint x p₂ → lookOf (Broken x p₂) ≡ parametersAt kept (shapeOf K.TwoPoints) s at
+      pub two-points-half : {x : Refusal} {p₂ : ℕ} → q ≡ PointRead.Refused x p₂ → lookOf (ParametersRead.Refused x p₂) ≡ parametersAt kept (shapeOf K.TwoPoints) s at
       unfolding parametersAt fixedAt partAt lookOf pointOf
-      corners-half h = rw (← er, g, ← second, h)
+      two-points-half h = rw (← er, g, ← second, h)
 
-      pub corners-is : {w : Point} {p₂ m : ℕ} {z : Run} {l : Remembered} → q ≡ At w p₂ m → z ≡ no-run → l ≡ remember k w → lookOf (Whole (Corners v w) z m l) ≡ parametersAt kept (shapeOf K.TwoPoints) s at
+      pub two-points-is : {w : TakenPoint} {t : ParametersRead} {l : Remembered} → q ≡ At w → t ≡ without (TwoPoints (v .value) (w .value)) (w .next) l → l ≡ remember k (w .value) → lookOf t ≡ parametersAt kept (shapeOf K.TwoPoints) s at
       unfolding parametersAt fixedAt partAt tailAt lookOf pointOf
-      corners-is h i j = rw (i, j, ← er, g, ← second, h)
+      two-points-is h i j = rw (i, j, ← er, g, ← second, h)
 
-pub ruleset fixeds = (single-no, single-is, double-no, double-is, scale-no, scale-is, triple-no, triple-short, triple-is, letters-no, letters-is, point-no, point-is, corners-no, corners-half, corners-is)
+pub ruleset fixeds = (one-integer-no, one-integer-is, two-integers-no, two-integers-is, real-no, real-is, three-integers-no, three-integers-short, three-integers-is, two-characters-no, two-characters-is, one-point-no, one-point-is, two-points-no, two-points-half, two-points-is)
 
 -- ---- kinds with a list
 
-pub list-array : {e : Entry} → e ≡ AnInteger → Parameters.Array ≡ listed e
-list-array g = rw g
+pub only-integers : {e : Entry} → e ≡ AnInteger → Parameters.AnArray ≡ onlyList e
+only-integers g = rw g
 
-pub list-text : {e : Entry} → e ≡ ACharacter → Parameters.Text ≡ listed e
-list-text g = rw g
+pub only-characters : {e : Entry} → e ≡ ACharacter → Parameters.AString ≡ onlyList e
+only-characters g = rw g
 
-pub numbered-array : {e : Entry} (x a : ℤ) → e ≡ AnInteger → x ≡ a → Parameters.NumberedArray x ≡ numbered a e
-numbered-array x a g i = rw (g, i)
+pub integer-then-integers : {e : Entry} (x a : ℤ) → e ≡ AnInteger → x ≡ a → Parameters.IntegerThenArray x ≡ integerThenList a e
+integer-then-integers x a g i = rw (g, i)
 
-pub numbered-text : {e : Entry} (x a : ℤ) → e ≡ ACharacter → x ≡ a → Parameters.NumberedText x ≡ numbered a e
-numbered-text x a g i = rw (g, i)
+pub integer-then-characters : {e : Entry} (x a : ℤ) → e ≡ ACharacter → x ≡ a → Parameters.IntegerThenString x ≡ integerThenList a e
+integer-then-characters x a g i = rw (g, i)
 
-pub ruleset lists = (list-array, list-text, numbered-array, numbered-text)
+pub ruleset lists = (only-integers, only-characters, integer-then-integers, integer-then-characters)
 
-list-said : (e : Entry) (w : Run) (n : ℕ) (kept : Remembered) → lookOf (Whole (listed e) w n kept) ≡ done (record { values = []; tail = counted e; start = w .start; count = w .count; next = n; kept = kept })
+abbrev with-list : Parameters → Run → ℕ → Remembered → ParametersRead
+with-list ps w n kept = Whole (record { parameters = ps; run = w; next = n; kept = kept })
+
+list-said : (e : Entry) (w : Run) (n : ℕ) (kept : Remembered) → lookOf (with-list (onlyList e) w n kept) ≡ done (record { values = []; tail = ListOf e; start = w .start; count = w .count; next = n; kept = kept })
 unfolding lookOf
 list-said AnInteger w n kept = refl
 list-said ACharacter w n kept = refl
 
-numbered-said : (a : ℤ) (e : Entry) (w : Run) (n : ℕ) (kept : Remembered) → lookOf (Whole (numbered a e) w n kept) ≡ done (record { values = number AnInteger a ∷ []; tail = counted e; start = w .start; count = w .count; next = n; kept = kept })
+integer-then-said : (a : ℤ) (e : Entry) (w : Run) (n : ℕ) (kept : Remembered) → lookOf (with-list (integerThenList a e) w n kept) ≡ done (record { values = number AnInteger a ∷ []; tail = ListOf e; start = w .start; count = w .count; next = n; kept = kept })
 unfolding lookOf
-numbered-said a AnInteger w n kept = refl
-numbered-said a ACharacter w n kept = refl
+integer-then-said a AnInteger w n kept = refl
+integer-then-said a ACharacter w n kept = refl
 
 -- the entries of a list behind fixed values are those of the list
-behind : (vs : List Value) (e : Entry) (kept : Remembered) (s : List ℕ) (l : List ℤ) (h : Answer Held) → afterRun e kept s h l ≡ afterLook s (then h (λ h. done (record { values = vs; tail = counted e; start = h .start; count = h .count; next = h .next; kept = kept }))) l
+behind : (vs : List Value) (e : Entry) (kept : Remembered) (s : List ℕ) (l : List ℤ) (h : Answer CountedRun) → afterRun e kept s h l ≡ afterLook s (then h (λ h. done (record { values = vs; tail = ListOf e; start = h .start; count = h .count; next = h .next; kept = kept }))) l
 unfolding afterRun afterLook
 behind vs e kept s l (done h) = refl
 behind vs e kept s l (refused x p) = refl
 
 module _ (e : Entry) (kept : Remembered) (s : List ℕ) (at : ℕ) where
   module _ {r : RunRead} (er : runOf r ≡ runAt e kept s at) where
-    pub list-no : {x : Refusal} {p : ℕ} → r ≡ Uncounted x p → lookOf (Broken x p) ≡ parametersAt kept (listShape e) s at
+    pub list-no : {x : Refusal} {p : ℕ} → r ≡ RunRead.Refused x p → lookOf (ParametersRead.Refused x p) ≡ parametersAt kept (listShape e) s at
     unfolding parametersAt fixedAt tailAt lookOf runOf
     list-no g = rw (← er, g)
 
-    pub list-is : {ps : Parameters} {w : Run} {n : ℕ} → r ≡ Counted w n → ps ≡ listed e → lookOf (Whole ps w n kept) ≡ parametersAt kept (listShape e) s at
+    pub list-is : {ps : Parameters} {w : Run} {n : ℕ} {t : ParametersRead} → r ≡ Counted w n → ps ≡ onlyList e → t ≡ with-list ps w n kept → lookOf t ≡ parametersAt kept (listShape e) s at
     unfolding parametersAt fixedAt tailAt runOf
-    list-is {w = w} {n = n} g i = rw (i, list-said e w n kept, ← er, g)
+    list-is {w = w} {n = n} g i j = rw (j, i, list-said e w n kept, ← er, g)
 
   module _ {r : IntegerRead} (er : integerOf r ≡ integerAt kept s at) where
-    pub number-no : {x : Refusal} {p : ℕ} → r ≡ NoInteger x p → lookOf (Broken x p) ≡ parametersAt kept (numberedShape e) s at
+    pub number-no : {x : Refusal} {p : ℕ} → r ≡ IntegerRead.Refused x p → lookOf (ParametersRead.Refused x p) ≡ parametersAt kept (integerThenListShape e) s at
     unfolding parametersAt fixedAt partAt entryAt lookOf integerOf
     number-no g = rw (← er, g)
 
-    pub number-kept : (l : List ℤ) {x : Refusal} {p : ℕ} → r ≡ NoInteger x p → l ≡ afterLook s (parametersAt kept (numberedShape e) s at) l
+    pub number-kept : (l : List ℤ) {x : Refusal} {p : ℕ} → r ≡ IntegerRead.Refused x p → l ≡ afterLook s (parametersAt kept (integerThenListShape e) s at) l
     unfolding parametersAt fixedAt partAt entryAt afterLook integerOf
     number-kept l g = rw (← er, g)
 
-    module _ {v : ℤ} {p n : ℕ} (g : r ≡ Integer v p n) where
-      pub numbered-entries : (l : List ℤ) {o : List ℤ} → o ≡ afterRun e kept s (runAt e kept s n) l → o ≡ afterLook s (parametersAt kept (numberedShape e) s at) l
+    module _ {v : TakenInteger} (g : r ≡ Integer v) where
+      pub integer-then-entries : (l : List ℤ) {o : List ℤ} → o ≡ afterRun e kept s (runAt e kept s (v .next)) l → o ≡ afterLook s (parametersAt kept (integerThenListShape e) s at) l
       unfolding parametersAt fixedAt partAt entryAt tailAt integerOf
-      numbered-entries l j = j ∙ behind (number AnInteger v ∷ []) e kept s l (runAt e kept s n) ∙ rw (← er, g)
+      integer-then-entries l j = j ∙ behind (number AnInteger (v .value) ∷ []) e kept s l (runAt e kept s (v .next)) ∙ rw (← er, g)
 
-      module _ {q : RunRead} (eq : runOf q ≡ runAt e kept s n) where
-        pub numbered-no : {x : Refusal} {p₂ : ℕ} → q ≡ Uncounted x p₂ → lookOf (Broken x p₂) ≡ parametersAt kept (numberedShape e) s at
+      module _ {q : RunRead} (eq : runOf q ≡ runAt e kept s (v .next)) where
+        pub integer-then-no : {x : Refusal} {p₂ : ℕ} → q ≡ RunRead.Refused x p₂ → lookOf (ParametersRead.Refused x p₂) ≡ parametersAt kept (integerThenListShape e) s at
         unfolding parametersAt fixedAt partAt entryAt tailAt lookOf integerOf runOf
-        numbered-no h = rw (← er, g, ← eq, h)
+        integer-then-no h = rw (← er, g, ← eq, h)
 
-        pub numbered-is : (x : ℤ) {ps : Parameters} {w : Run} {m : ℕ} → q ≡ Counted w m → ps ≡ numbered x e → x ≡ v → lookOf (Whole ps w m kept) ≡ parametersAt kept (numberedShape e) s at
+        pub integer-then-is : (x : ℤ) {ps : Parameters} {w : Run} {m : ℕ} {t : ParametersRead} → q ≡ Counted w m → ps ≡ integerThenList x e → x ≡ v .value → t ≡ with-list ps w m kept → lookOf t ≡ parametersAt kept (integerThenListShape e) s at
         unfolding parametersAt fixedAt partAt entryAt tailAt integerOf runOf
-        numbered-is x {w = w} {m = m} h i j = rw (i, j, numbered-said v e w m kept, ← er, g, ← eq, h)
+        integer-then-is x {w = w} {m = m} h i j k = rw (k, i, j, integer-then-said (v .value) e w m kept, ← er, g, ← eq, h)
 
   pub list-entries : (l : List ℤ) {o : List ℤ} → o ≡ afterRun e kept s (runAt e kept s at) l → o ≡ afterLook s (parametersAt kept (listShape e) s at) l
   unfolding parametersAt fixedAt tailAt
   list-entries l j = j ∙ behind [] e kept s l (runAt e kept s at)
 
-pub ruleset runs = (list-no, list-is, list-entries, number-no, number-kept, numbered-entries, numbered-no, numbered-is)
+pub ruleset runs = (list-no, list-is, list-entries, number-no, number-kept, integer-then-entries, integer-then-no, integer-then-is)
 
 -- ---- by kind
 
@@ -266,16 +273,16 @@ pub entries-of-kind : (kept : Remembered) (s : List ℕ) (at : ℕ) (l : List �
 entries-of-kind kept s at l e f = f ∙ ap (λ (k : Kind). afterLook s (parametersAt kept (shapeOf k) s at) l) (sym e)
 
 -- a kind without a list leaves the lent one as it is
-fixed-left : (kept : Remembered) (ps : List Part) (s : List ℕ) (at : ℕ) (l : List ℤ) → l ≡ afterLook s (parametersAt kept (record { fixed = ps; tail = none }) s at) l
+fixed-left : (kept : Remembered) (ps : List Part) (s : List ℕ) (at : ℕ) (l : List ℤ) → l ≡ afterLook s (parametersAt kept (record { fixed = ps; tail = NoList }) s at) l
 unfolding parametersAt tailAt afterLook handed allAfter
 fixed-left kept ps s at l =
     by-then (λ a. l ≡ afterLook s a l) (fixedAt kept ps s at) _
     (λ f e. rw (le-leb 0 (length l) (omega arith)))
     (λ x p e. refl)
 
-pub untouched : (kept : Remembered) (s : List ℕ) (at : ℕ) (l : List ℤ) {k j : Kind} → k ≡ j → shapeOf j .tail ≡ none → l ≡ afterLook s (parametersAt kept (shapeOf k) s at) l
+pub untouched : (kept : Remembered) (s : List ℕ) (at : ℕ) (l : List ℤ) {k j : Kind} → k ≡ j → shapeOf j .tail ≡ NoList → l ≡ afterLook s (parametersAt kept (shapeOf k) s at) l
 untouched kept s at l {k} {j} e t =
-    let shape : shapeOf k ≡ record { fixed = shapeOf j .fixed; tail = none } = ap shapeOf e ∙ ap (λ (x : Tail). record { fixed = shapeOf j .fixed; tail = x }) t in
+    let shape : shapeOf k ≡ record { fixed = shapeOf j .fixed; tail = NoList } = ap shapeOf e ∙ ap (λ (x : Tail). record { fixed = shapeOf j .fixed; tail = x }) t in
     fixed-left kept (shapeOf j .fixed) s at l ∙ ap (λ (x : Shape). afterLook s (parametersAt kept x s at) l) (sym shape)
 
 pub ruleset of-kinds = (of-kind, entries-of-kind, untouched, refl)

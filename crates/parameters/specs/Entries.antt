@@ -14,9 +14,9 @@ use Rattle.numbers.specs.Counts.{countAt}
 use Rattle.parameters.specs.declared.Entry.{Entry}
 use Rattle.parameters.specs.declared.Entry.the-variants.{AnInteger, ACharacter}
 use Rattle.parameters.specs.declared.EntriesEnd.{EntriesEnd}
-use Rattle.parameters.specs.declared.EntriesEnd.the-variants.{End, Cut}
+use Rattle.parameters.specs.declared.EntriesEnd.the-variants.{End}
 use Rattle.parameters.specs.declared.RunRead.{RunRead}
-use Rattle.parameters.specs.declared.RunRead.the-variants.{Counted, Uncounted}
+use Rattle.parameters.specs.declared.RunRead.the-variants.{Counted}
 
 abbrev pub asEntry : Read ℕ → Answer (Read ℤ)
 asEntry b = done (record { value = pos (b .value); place = b .place; next = b .next })
@@ -30,25 +30,25 @@ entryAt ACharacter kept s at = then (byteAt kept s at) asEntry
 abbrev pub entriesEnd : Entry → Remembered → ℕ → List ℕ → ℕ → Answer ℕ
 entriesEnd e kept k s at = endsAfter (entryAt e kept s) k at
 
-abbrev pub entriesFrom : Entry → Remembered → ℕ → List ℕ → ℕ → List ℤ
-entriesFrom e kept k s at = allAfter (entryAt e kept s) k at
+abbrev pub entryValues : Entry → Remembered → ℕ → List ℕ → ℕ → List ℤ
+entryValues e kept k s at = allAfter (entryAt e kept s) k at
 
 -- what the code's answers say
-unfoldable pub endOf : EntriesEnd → Answer ℕ
-endOf (End n) = done n
-endOf (Cut e p) = refused (numberOf e) p
+unfoldable pub entriesEndOf : EntriesEnd → Answer ℕ
+entriesEndOf (End n) = done n
+entriesEndOf (EntriesEnd.Refused e p) = refused (numberOf e) p
 
 -- where the entries of a counted list start, how many they are, and where reading goes on
-pub record Held : Type 0 where
+pub record CountedRun : Type 0 where
   pub start : ℕ
   pub count : ℕ
   pub next : ℕ
 
-unfoldable pub runOf : RunRead → Answer Held
+unfoldable pub runOf : RunRead → Answer CountedRun
 runOf (Counted r n) = done (record { start = r .start; count = r .count; next = n })
-runOf (Uncounted e p) = refused (numberOf e) p
+runOf (RunRead.Refused e p) = refused (numberOf e) p
 
-unfoldable pub runAt : Entry → Remembered → List ℕ → ℕ → Answer Held
+unfoldable pub runAt : Entry → Remembered → List ℕ → ℕ → Answer CountedRun
 runAt e kept s at =
     then (countAt kept s at)
     (λ c. then (entriesEnd e kept (c .value) s (c .next))
@@ -59,6 +59,6 @@ unfoldable pub handed : ℕ → List ℤ → List ℤ → List ℤ
 handed k es l = pick (leb k (length l)) (sets l 0 es) l
 
 -- the lent list behind a counted one that is whole, or refused
-unfoldable pub afterRun : Entry → Remembered → List ℕ → Answer Held → List ℤ → List ℤ
-afterRun e kept s (done h) l = handed (h .count) (entriesFrom e kept (h .count) s (h .start)) l
+unfoldable pub afterRun : Entry → Remembered → List ℕ → Answer CountedRun → List ℤ → List ℤ
+afterRun e kept s (done h) l = handed (h .count) (entryValues e kept (h .count) s (h .start)) l
 afterRun e kept s (refused x p) l = l

@@ -1,3 +1,4 @@
 pub mod Entries
 pub mod Shapes
+pub mod Numbers
 pub mod Looking

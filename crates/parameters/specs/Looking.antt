@@ -10,26 +10,28 @@ use Rattle.numbers.specs.Integers.{integerAt}
 use Rattle.points.specs.Reading.{pointAt}
 use Rattle.parameters.specs.declared.Entry.{Entry}
 use Rattle.parameters.specs.declared.Entry.the-variants.{AnInteger}
-use Rattle.parameters.specs.declared.Look.{Look}
-use Rattle.parameters.specs.declared.Look.the-variants.{Whole, Broken}
-use Rattle.parameters.specs.declared.PairRead.{PairRead}
-use Rattle.parameters.specs.declared.PairRead.the-variants.{Both, NotBoth}
-use Rattle.parameters.specs.Entries.{entryAt, entriesFrom, Held, runAt, handed}
-use Rattle.parameters.specs.Shapes.{Part, single, real, point, Tail, none, counted, Shape, Value, number, scaled, place, valuesOf, tailOf}
+use Rattle.parameters.specs.declared.ParametersRead.{ParametersRead}
+use Rattle.parameters.specs.declared.ParametersRead.the-variants.{Whole}
+use Rattle.parameters.specs.declared.TwoEntriesRead.{TwoEntriesRead}
+use Rattle.parameters.specs.declared.TwoEntriesRead.the-variants.{Both}
+use Rattle.parameters.specs.declared.Tail.{Tail}
+use Rattle.parameters.specs.declared.Tail.the-variants.{NoList, ListOf}
+use Rattle.parameters.specs.Entries.{entryAt, entryValues, CountedRun, runAt, handed}
+use Rattle.parameters.specs.Shapes.{Part, single, real, point, Shape, Value, number, scaled, place, valuesOf, tailOf}
 
-pub record Pair : Type 0 where
+pub record TwoEntries : Type 0 where
   pub one : ℤ
   pub two : ℤ
   pub next : ℕ
 
 -- two entries, one after the other
-unfoldable pub pairAt : Entry → Remembered → List ℕ → ℕ → Answer Pair
-pairAt e kept s at =
+unfoldable pub twoEntriesAt : Entry → Remembered → List ℕ → ℕ → Answer TwoEntries
+twoEntriesAt e kept s at =
     then (entryAt e kept s at) (λ a. then (entryAt e kept s (a .next)) (λ b. done (record { one = a .value; two = b .value; next = b .next })))
 
-unfoldable pub pairOf : PairRead → Answer Pair
-pairOf (Both a b n) = done (record { one = a; two = b; next = n })
-pairOf (NotBoth e p) = refused (numberOf e) p
+unfoldable pub twoEntriesOf : TwoEntriesRead → Answer TwoEntries
+twoEntriesOf (Both a b n) = done (record { one = a; two = b; next = n })
+twoEntriesOf (TwoEntriesRead.Refused e p) = refused (numberOf e) p
 
 -- what was read so far: its values, where reading goes on, and what is then remembered
 pub record Fixed : Type 0 where
@@ -43,7 +45,7 @@ one v n kept = done (record { values = v ∷ []; next = n; kept = kept })
 -- "Real. Two integers, mantissa and exponent"; a point is remembered
 unfoldable pub partAt : Remembered → Part → List ℕ → ℕ → Answer Fixed
 partAt kept (single e) s at = then (entryAt e kept s at) (λ i. one (number e (i .value)) (i .next) kept)
-partAt kept real s at = then (pairAt AnInteger kept s at) (λ r. one (scaled (r .one) (r .two)) (r .next) kept)
+partAt kept real s at = then (twoEntriesAt AnInteger kept s at) (λ r. one (scaled (r .one) (r .two)) (r .next) kept)
 partAt kept point s at = then (pointAt kept s at) (λ p. one (place (p .value)) (p .next) (remember kept (p .value)))
 
 -- the fixed parts in their order
@@ -54,9 +56,9 @@ fixedAt kept (p ∷ ps) s at =
     (λ f. then (fixedAt (f .kept) ps s (f .next)) (λ g. done (record { values = f .values ++ g .values; next = g .next; kept = g .kept })))
 
 -- the string or the array behind them
-unfoldable pub tailAt : Remembered → Tail → List ℕ → ℕ → Answer Held
-tailAt kept none s at = done (record { start = 0; count = 0; next = at })
-tailAt kept (counted e) s at = runAt e kept s at
+unfoldable pub tailAt : Remembered → Tail → List ℕ → ℕ → Answer CountedRun
+tailAt kept NoList s at = done (record { start = 0; count = 0; next = at })
+tailAt kept (ListOf e) s at = runAt e kept s at
 
 -- all parameters: the values and the kind of list, the run of its entries, where reading goes on, and what is then remembered
 pub record Parsed : Type 0 where
@@ -67,7 +69,7 @@ pub record Parsed : Type 0 where
   pub next : ℕ
   pub kept : Remembered
 
-abbrev with : Fixed → Tail → Held → Answer Parsed
+abbrev with : Fixed → Tail → CountedRun → Answer Parsed
 with f t h = done (record { values = f .values; tail = t; start = h .start; count = h .count; next = h .next; kept = f .kept })
 
 unfoldable pub parametersAt : Remembered → Shape → List ℕ → ℕ → Answer Parsed
@@ -75,20 +77,20 @@ parametersAt kept shape s at =
     then (fixedAt kept (shape .fixed) s at) (λ f. then (tailAt (f .kept) (shape .tail) s (f .next)) (λ h. with f (shape .tail) h))
 
 -- what the answer says
-unfoldable pub lookOf : Look → Answer Parsed
-lookOf (Whole ps r n k) =
-    done (record { values = valuesOf ps; tail = tailOf ps; start = r .start; count = r .count; next = n; kept = k })
-lookOf (Broken e p) = refused (numberOf e) p
+unfoldable pub lookOf : ParametersRead → Answer Parsed
+lookOf (Whole t) =
+    done (record { values = valuesOf (t .parameters); tail = tailOf (t .parameters); start = t .run .start; count = t .run .count; next = t .next; kept = t .kept })
+lookOf (ParametersRead.Refused e p) = refused (numberOf e) p
 
 -- ---- the entries, and the lent list behind them
 
 abbrev pub entryIn : Tail → Entry
-entryIn none = AnInteger
-entryIn (counted e) = e
+entryIn NoList = AnInteger
+entryIn (ListOf e) = e
 
-abbrev pub entriesOf : List ℕ → Parsed → List ℤ
-entriesOf s p = entriesFrom (entryIn (p .tail)) (p .kept) (p .count) s (p .start)
+abbrev pub parsedEntries : List ℕ → Parsed → List ℤ
+parsedEntries s p = entryValues (entryIn (p .tail)) (p .kept) (p .count) s (p .start)
 
 unfoldable pub afterLook : List ℕ → Answer Parsed → List ℤ → List ℤ
-afterLook s (done p) l = handed (p .count) (entriesOf s p) l
+afterLook s (done p) l = handed (p .count) (parsedEntries s p) l
 afterLook s (refused e p) l = l

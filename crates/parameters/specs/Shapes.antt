@@ -8,41 +8,42 @@ use Rattle.table.specs.declared.Kind.the-variants as K
 use Rattle.parameters.specs.declared.Entry.{Entry}
 use Rattle.parameters.specs.declared.Entry.the-variants.{AnInteger, ACharacter}
 use Rattle.parameters.specs.declared.Parameters.{Parameters}
-use Rattle.parameters.specs.declared.Parameters.the-variants.{Single, Double, Triple, OnePoint, Corners, Scale, Letters, Text, Array, NumberedText, NumberedArray}
+use Rattle.parameters.specs.declared.Parameters.the-variants.{OneInteger, TwoIntegers, ThreeIntegers, OnePoint, TwoPoints, AReal, AString, AnArray, IntegerThenArray, IntegerThenString, TwoCharacters}
+use Rattle.parameters.specs.declared.Tail.{Tail}
+use Rattle.parameters.specs.declared.Tail.the-variants.{NoList, ListOf}
+use Rattle.parameters.specs.declared.LastPoint.{LastPoint}
+use Rattle.parameters.specs.declared.LastPoint.the-variants.{NoPoint, Last}
 
 pub data Part : Type 0 where
   single : Entry → Part
   real : Part
   point : Part
 
-pub data Tail : Type 0 where
-  none : Tail
-  counted : Entry → Tail
-
+-- fixed parts, and the tail: no list, or one of such entries
 pub record Shape : Type 0 where
   pub fixed : List Part
   pub tail : Tail
 
 abbrev fixedOnly : List Part → Shape
-fixedOnly ps = record { fixed = ps; tail = none }
+fixedOnly ps = record { fixed = ps; tail = NoList }
 
 abbrev pub listShape : Entry → Shape
-listShape e = record { fixed = []; tail = counted e }
+listShape e = record { fixed = []; tail = ListOf e }
 
-abbrev pub numberedShape : Entry → Shape
-numberedShape e = record { fixed = single AnInteger ∷ []; tail = counted e }
+abbrev pub integerThenListShape : Entry → Shape
+integerThenListShape e = record { fixed = single AnInteger ∷ []; tail = ListOf e }
 
 abbrev pub shapeOf : Kind → Shape
-shapeOf K.AnInteger = fixedOnly (single AnInteger ∷ [])
+shapeOf K.OneInteger = fixedOnly (single AnInteger ∷ [])
 shapeOf K.TwoIntegers = fixedOnly (single AnInteger ∷ single AnInteger ∷ [])
 shapeOf K.ThreeIntegers = fixedOnly (single AnInteger ∷ single AnInteger ∷ single AnInteger ∷ [])
-shapeOf K.APoint = fixedOnly (point ∷ [])
+shapeOf K.OnePoint = fixedOnly (point ∷ [])
 shapeOf K.TwoPoints = fixedOnly (point ∷ point ∷ [])
 shapeOf K.AReal = fixedOnly (real ∷ [])
 shapeOf K.AString = listShape ACharacter
 shapeOf K.AnArray = listShape AnInteger
-shapeOf K.IntegerThenArray = numberedShape AnInteger
-shapeOf K.IntegerThenString = numberedShape ACharacter
+shapeOf K.IntegerThenArray = integerThenListShape AnInteger
+shapeOf K.IntegerThenString = integerThenListShape ACharacter
 shapeOf K.TwoCharacters = fixedOnly (single ACharacter ∷ single ACharacter ∷ [])
 
 -- the values of the fixed parts
@@ -53,37 +54,47 @@ pub data Value : Type 0 where
 
 -- what each case of the parameters holds
 abbrev pub valuesOf : Parameters → List Value
-valuesOf (Single a) = number AnInteger a ∷ []
-valuesOf (Double a b) = number AnInteger a ∷ number AnInteger b ∷ []
-valuesOf (Triple a b c) = number AnInteger a ∷ number AnInteger b ∷ number AnInteger c ∷ []
+valuesOf (OneInteger a) = number AnInteger a ∷ []
+valuesOf (TwoIntegers a b) = number AnInteger a ∷ number AnInteger b ∷ []
+valuesOf (ThreeIntegers a b c) = number AnInteger a ∷ number AnInteger b ∷ number AnInteger c ∷ []
 valuesOf (OnePoint p) = place p ∷ []
-valuesOf (Corners p q) = place p ∷ place q ∷ []
-valuesOf (Scale r) = scaled (r .mantissa) (r .exponent) ∷ []
-valuesOf (Letters a b) = number ACharacter a ∷ number ACharacter b ∷ []
-valuesOf Text = []
-valuesOf Array = []
-valuesOf (NumberedText a) = number AnInteger a ∷ []
-valuesOf (NumberedArray a) = number AnInteger a ∷ []
+valuesOf (TwoPoints p q) = place p ∷ place q ∷ []
+valuesOf (AReal r) = scaled (r .mantissa) (r .exponent) ∷ []
+valuesOf AString = []
+valuesOf AnArray = []
+valuesOf (IntegerThenArray a) = number AnInteger a ∷ []
+valuesOf (IntegerThenString a) = number AnInteger a ∷ []
+valuesOf (TwoCharacters a b) = number ACharacter a ∷ number ACharacter b ∷ []
 
 -- and whether entries of a lent list go with it
 abbrev pub tailOf : Parameters → Tail
-tailOf (Single a) = none
-tailOf (Double a b) = none
-tailOf (Triple a b c) = none
-tailOf (OnePoint p) = none
-tailOf (Corners p q) = none
-tailOf (Scale r) = none
-tailOf (Letters a b) = none
-tailOf Text = counted ACharacter
-tailOf Array = counted AnInteger
-tailOf (NumberedText a) = counted ACharacter
-tailOf (NumberedArray a) = counted AnInteger
+tailOf (OneInteger a) = NoList
+tailOf (TwoIntegers a b) = NoList
+tailOf (ThreeIntegers a b c) = NoList
+tailOf (OnePoint p) = NoList
+tailOf (TwoPoints p q) = NoList
+tailOf (AReal r) = NoList
+tailOf AString = ListOf ACharacter
+tailOf AnArray = ListOf AnInteger
+tailOf (IntegerThenArray a) = ListOf AnInteger
+tailOf (IntegerThenString a) = ListOf ACharacter
+tailOf (TwoCharacters a b) = NoList
+
+-- the last point among the values, or the one before them
+abbrev pub lastFrom : LastPoint → List Value → LastPoint
+lastFrom before [] = before
+lastFrom before (number e v ∷ vs) = lastFrom before vs
+lastFrom before (scaled m x ∷ vs) = lastFrom before vs
+lastFrom before (place p ∷ vs) = lastFrom (Last p) vs
+
+abbrev pub lastPoint : List Value → LastPoint
+lastPoint vs = lastFrom NoPoint vs
 
 -- the parameters that are a string or an array, alone or behind an integer
-abbrev pub listed : Entry → Parameters
-listed AnInteger = Array
-listed ACharacter = Text
+abbrev pub onlyList : Entry → Parameters
+onlyList AnInteger = AnArray
+onlyList ACharacter = AString
 
-abbrev pub numbered : ℤ → Entry → Parameters
-numbered a AnInteger = NumberedArray a
-numbered a ACharacter = NumberedText a
+abbrev pub integerThenList : ℤ → Entry → Parameters
+integerThenList a AnInteger = IntegerThenArray a
+integerThenList a ACharacter = IntegerThenString a

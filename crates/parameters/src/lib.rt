@@ -1,17 +1,21 @@
-// The parameters of a command, read by kind. The entries of a string or an array are read once, into an array of their own:
+// The parameters of a command: read by kind, and what they hold. The entries of a string or an array are read once, into an array of their own:
 // they come last, and go to the lent list once all of them are known to be good.
 ghost use mathlib.Core.Path.{_≡_};
+ghost use mathlib.Core.List.{[], _∷_};
 ghost use Prim.Native.Nat.{_≤_};
 ghost use lib.ListN.{length, take};
 ghost use lib.Seq.{sets};
+ghost use lib.IntN.{pos};
 ghost use Rattle.numbers.specs.Integers.{integerOf};
-ghost use Rattle.parameters.specs.Entries.{entryAt, entriesFrom, endOf, entriesEnd, runOf, runAt, handed, afterRun};
-ghost use Rattle.parameters.specs.Shapes.{shapeOf, listShape, numberedShape, listed, numbered};
-ghost use Rattle.parameters.specs.Looking.{pairOf, pairAt, lookOf, parametersAt, afterLook};
+ghost use Rattle.parameters.specs.Entries.{entryAt, entryValues, entriesEndOf, entriesEnd, runOf, runAt, handed, afterRun};
+ghost use Rattle.parameters.specs.Shapes.{shapeOf, listShape, integerThenListShape, onlyList, integerThenList, valuesOf, tailOf, lastPoint};
+ghost use Rattle.parameters.specs.Numbers.{Holds};
+ghost use Rattle.parameters.specs.Looking.{twoEntriesOf, twoEntriesAt, lookOf, parametersAt, afterLook};
 use memory::Point;
 use memory::Remembered;
 use numbers::CountRead;
 use numbers::IntegerRead;
+use numbers::TakenInteger;
 use points::PointRead;
 use refusals::Refusal;
 use table::Kind;
@@ -31,17 +35,35 @@ pub struct Real {
 
 // The fixed parameters of a command, by kind. The entries of a string or an array are in a lent list.
 pub enum Parameters {
-    Single(i32),
-    Double(i32, i32),
-    Triple(i32, i32, i32),
+    OneInteger(i32),
+    TwoIntegers(i32, i32),
+    ThreeIntegers(i32, i32, i32),
     OnePoint(Point),
-    Corners(Point, Point),
-    Scale(Real),
-    Letters(i32, i32),
-    Text,
-    Array,
-    NumberedText(i32),
-    NumberedArray(i32),
+    TwoPoints(Point, Point),
+    AReal(Real),
+    AString,
+    AnArray,
+    IntegerThenArray(i32),
+    IntegerThenString(i32),
+    TwoCharacters(i32, i32),
+}
+
+// Whether entries of a lent list go with the parameters, and what they are.
+pub enum Tail {
+    NoList,
+    ListOf(Entry),
+}
+
+// The point that the parameters end with, if they have any.
+pub enum LastPoint {
+    NoPoint,
+    Last(Point),
+}
+
+// The fixed parameters as numbers, a point as x and y, and 0 in what is left. Two points have the most, four.
+pub struct Numbers {
+    pub values: [i32; 4],
+    pub len: usize,
 }
 
 // Where the entries of a string or an array start, and how many they are.
@@ -50,28 +72,35 @@ pub struct Run {
     pub count: usize,
 }
 
-pub enum Look {
-    // the parameters, the run of their entries, where reading goes on, and what is then remembered
-    Whole(Parameters, Run, usize, Remembered),
+// Parameters that were read, the run of their entries, where reading goes on, and what is then remembered.
+pub struct TakenParameters {
+    pub parameters: Parameters,
+    pub run: Run,
+    pub next: usize,
+    pub kept: Remembered,
+}
+
+pub enum ParametersRead {
+    Whole(TakenParameters),
     // the refusal and its place
-    Broken(Refusal, usize),
+    Refused(Refusal, usize),
 }
 
 enum EntriesEnd {
     End(usize),
-    Cut(Refusal, usize),
+    Refused(Refusal, usize),
 }
 
 enum RunRead {
     // the run, and where reading goes on
     Counted(Run, usize),
-    Uncounted(Refusal, usize),
+    Refused(Refusal, usize),
 }
 
-enum PairRead {
+enum TwoEntriesRead {
     // two integers or characters, and where reading goes on
     Both(i32, i32, usize),
-    NotBoth(Refusal, usize),
+    Refused(Refusal, usize),
 }
 
 // ---- entries
@@ -80,11 +109,15 @@ fn read_character(kept: Remembered, s: &[u8], at: usize) -> IntegerRead
     ensures { λ r. ⌜ integerOf r ≡ entryAt Entry.ACharacter kept (now (s .entry)) at ⌝ }
 {
     match wire::take(kept, s, at) {
-        ByteRead::Byte(b, p, n) => {
-            let v = characters::entry_of(b);
-            IntegerRead::Integer(v, p, n)
+        ByteRead::Byte(byte) => {
+            let entry = TakenInteger {
+                value: characters::entry_of(byte.value),
+                place: byte.place,
+                next: byte.next,
+            };
+            IntegerRead::Integer(entry)
         }
-        ByteRead::NoByte(e, p) => IntegerRead::NoInteger(e, p),
+        ByteRead::Refused(e, p) => IntegerRead::Refused(e, p),
     }
 }
 
@@ -108,19 +141,20 @@ fn read_entries(
     list: &mut [i32; 256],
 ) -> EntriesEnd
     requires { ⌜ count ≤ 256 ⌝ }
-    ensures { λ r. ⌜ (endOf r ≡ entriesEnd entry kept count (now (s .entry)) at) × (now (list .exit) ≡ sets (now (list .entry)) 0 (entriesFrom entry kept count (now (s .entry)) at)) ⌝ }
+    ensures { λ r. ⌜ (entriesEndOf r ≡ entriesEnd entry kept count (now (s .entry)) at) × (now (list .exit) ≡ sets (now (list .entry)) 0 (entryValues entry kept count (now (s .entry)) at)) ⌝ }
 {
     let mut i = 0;
     let mut pos = at;
     while i < count {
         match read_entry(kept, entry, s, pos) {
-            IntegerRead::Integer(v, _, n) => {
+            IntegerRead::Integer(taken) => {
+                let v = taken.value;
                 list[i] = v;
-                pos = n;
+                pos = taken.next;
                 i = i + 1;
             }
-            IntegerRead::NoInteger(e, p) => {
-                return EntriesEnd::Cut(e, p);
+            IntegerRead::Refused(e, p) => {
+                return EntriesEnd::Refused(e, p);
             }
         }
     }
@@ -148,7 +182,9 @@ fn run_of(kept: Remembered, entry: Entry, s: &[u8], at: usize, list: &mut [i32])
     ensures { λ r. ⌜ (runOf r ≡ runAt entry kept (now (s .entry)) at) × (now (list .exit) ≡ afterRun entry kept (now (s .entry)) (runAt entry kept (now (s .entry)) at) (now (list .entry))) ⌝ }
 {
     match numbers::read_count(kept, s, at) {
-        CountRead::Count(count, _, start) => {
+        CountRead::Count(taken) => {
+            let count = taken.value;
+            let start = taken.next;
             let mut entries = [0; 256];
             match read_entries(kept, entry, count, s, start, &mut entries) {
                 EntriesEnd::End(n) => {
@@ -159,188 +195,318 @@ fn run_of(kept: Remembered, entry: Entry, s: &[u8], at: usize, list: &mut [i32])
                     };
                     RunRead::Counted(run, n)
                 }
-                EntriesEnd::Cut(e, p) => RunRead::Uncounted(e, p),
+                EntriesEnd::Refused(e, p) => RunRead::Refused(e, p),
             }
         }
-        CountRead::NoCount(e, p) => RunRead::Uncounted(e, p),
+        CountRead::Refused(e, p) => RunRead::Refused(e, p),
     }
 }
 
 // ---- each kind
 
-fn no_run() -> Run
-    ensures { λ r. ⌜ r ≡ record { start = 0; count = 0 } ⌝ }
+fn whole(parameters: Parameters, run: Run, next: usize, kept: Remembered) -> ParametersRead
+    ensures { λ r. ⌜ r ≡ ParametersRead.Whole (record { parameters = parameters; run = run; next = next; kept = kept }) ⌝ }
 {
-    Run { start: 0, count: 0 }
+    let taken = TakenParameters {
+        parameters: parameters,
+        run: run,
+        next: next,
+        kept: kept,
+    };
+    ParametersRead::Whole(taken)
 }
 
-fn pair(kept: Remembered, entry: Entry, s: &[u8], at: usize) -> PairRead
-    ensures { λ r. ⌜ pairOf r ≡ pairAt entry kept (now (s .entry)) at ⌝ }
+// What was read of a kind without a list.
+fn without_list(parameters: Parameters, next: usize, kept: Remembered) -> ParametersRead
+    ensures { λ r. ⌜ r ≡ ParametersRead.Whole (record { parameters = parameters; run = record { start = 0; count = 0 }; next = next; kept = kept }) ⌝ }
+{
+    let run = Run { start: 0, count: 0 };
+    whole(parameters, run, next, kept)
+}
+
+fn two_entries(kept: Remembered, entry: Entry, s: &[u8], at: usize) -> TwoEntriesRead
+    ensures { λ r. ⌜ twoEntriesOf r ≡ twoEntriesAt entry kept (now (s .entry)) at ⌝ }
 {
     match read_entry(kept, entry, s, at) {
-        IntegerRead::Integer(a, _, n) => match read_entry(kept, entry, s, n) {
-            IntegerRead::Integer(b, _, m) => PairRead::Both(a, b, m),
-            IntegerRead::NoInteger(e, p) => PairRead::NotBoth(e, p),
+        IntegerRead::Integer(a) => match read_entry(kept, entry, s, a.next) {
+            IntegerRead::Integer(b) => TwoEntriesRead::Both(a.value, b.value, b.next),
+            IntegerRead::Refused(e, p) => TwoEntriesRead::Refused(e, p),
         },
-        IntegerRead::NoInteger(e, p) => PairRead::NotBoth(e, p),
+        IntegerRead::Refused(e, p) => TwoEntriesRead::Refused(e, p),
     }
 }
 
-fn look_single(kept: Remembered, s: &[u8], at: usize) -> Look
-    ensures { λ r. ⌜ lookOf r ≡ parametersAt kept (shapeOf Kind.AnInteger) (now (s .entry)) at ⌝ }
+fn look_one_integer(kept: Remembered, s: &[u8], at: usize) -> ParametersRead
+    ensures { λ r. ⌜ lookOf r ≡ parametersAt kept (shapeOf Kind.OneInteger) (now (s .entry)) at ⌝ }
 {
     match numbers::read_integer(kept, s, at) {
-        IntegerRead::Integer(a, _, n) => Look::Whole(Parameters::Single(a), no_run(), n, kept),
-        IntegerRead::NoInteger(e, p) => Look::Broken(e, p),
+        IntegerRead::Integer(a) => without_list(Parameters::OneInteger(a.value), a.next, kept),
+        IntegerRead::Refused(e, p) => ParametersRead::Refused(e, p),
     }
 }
 
-fn look_double(kept: Remembered, s: &[u8], at: usize) -> Look
+fn look_two_integers(kept: Remembered, s: &[u8], at: usize) -> ParametersRead
     ensures { λ r. ⌜ lookOf r ≡ parametersAt kept (shapeOf Kind.TwoIntegers) (now (s .entry)) at ⌝ }
 {
-    match pair(kept, Entry::AnInteger, s, at) {
-        PairRead::Both(a, b, n) => Look::Whole(Parameters::Double(a, b), no_run(), n, kept),
-        PairRead::NotBoth(e, p) => Look::Broken(e, p),
+    match two_entries(kept, Entry::AnInteger, s, at) {
+        TwoEntriesRead::Both(a, b, n) => without_list(Parameters::TwoIntegers(a, b), n, kept),
+        TwoEntriesRead::Refused(e, p) => ParametersRead::Refused(e, p),
     }
 }
 
-fn look_scale(kept: Remembered, s: &[u8], at: usize) -> Look
+fn look_real(kept: Remembered, s: &[u8], at: usize) -> ParametersRead
     ensures { λ r. ⌜ lookOf r ≡ parametersAt kept (shapeOf Kind.AReal) (now (s .entry)) at ⌝ }
 {
-    match pair(kept, Entry::AnInteger, s, at) {
-        PairRead::Both(a, b, n) => {
+    match two_entries(kept, Entry::AnInteger, s, at) {
+        TwoEntriesRead::Both(a, b, n) => {
             let real = Real {
                 mantissa: a,
                 exponent: b,
             };
-            Look::Whole(Parameters::Scale(real), no_run(), n, kept)
+            without_list(Parameters::AReal(real), n, kept)
         }
-        PairRead::NotBoth(e, p) => Look::Broken(e, p),
+        TwoEntriesRead::Refused(e, p) => ParametersRead::Refused(e, p),
     }
 }
 
-fn look_letters(kept: Remembered, s: &[u8], at: usize) -> Look
+fn look_two_characters(kept: Remembered, s: &[u8], at: usize) -> ParametersRead
     ensures { λ r. ⌜ lookOf r ≡ parametersAt kept (shapeOf Kind.TwoCharacters) (now (s .entry)) at ⌝ }
 {
-    match pair(kept, Entry::ACharacter, s, at) {
-        PairRead::Both(a, b, n) => Look::Whole(Parameters::Letters(a, b), no_run(), n, kept),
-        PairRead::NotBoth(e, p) => Look::Broken(e, p),
+    match two_entries(kept, Entry::ACharacter, s, at) {
+        TwoEntriesRead::Both(a, b, n) => without_list(Parameters::TwoCharacters(a, b), n, kept),
+        TwoEntriesRead::Refused(e, p) => ParametersRead::Refused(e, p),
     }
 }
 
-fn look_triple(kept: Remembered, s: &[u8], at: usize) -> Look
+fn look_three_integers(kept: Remembered, s: &[u8], at: usize) -> ParametersRead
     ensures { λ r. ⌜ lookOf r ≡ parametersAt kept (shapeOf Kind.ThreeIntegers) (now (s .entry)) at ⌝ }
 {
-    match pair(kept, Entry::AnInteger, s, at) {
-        PairRead::Both(a, b, n) => match numbers::read_integer(kept, s, n) {
-            IntegerRead::Integer(d, _, m) => Look::Whole(
-                Parameters::Triple(a, b, d),
-                no_run(),
-                m,
+    match two_entries(kept, Entry::AnInteger, s, at) {
+        TwoEntriesRead::Both(a, b, n) => match numbers::read_integer(kept, s, n) {
+            IntegerRead::Integer(d) => without_list(
+                Parameters::ThreeIntegers(a, b, d.value),
+                d.next,
                 kept,
             ),
-            IntegerRead::NoInteger(e, p) => Look::Broken(e, p),
+            IntegerRead::Refused(e, p) => ParametersRead::Refused(e, p),
         },
-        PairRead::NotBoth(e, p) => Look::Broken(e, p),
+        TwoEntriesRead::Refused(e, p) => ParametersRead::Refused(e, p),
     }
 }
 
-fn look_point(kept: Remembered, s: &[u8], at: usize) -> Look
-    ensures { λ r. ⌜ lookOf r ≡ parametersAt kept (shapeOf Kind.APoint) (now (s .entry)) at ⌝ }
+fn look_one_point(kept: Remembered, s: &[u8], at: usize) -> ParametersRead
+    ensures { λ r. ⌜ lookOf r ≡ parametersAt kept (shapeOf Kind.OnePoint) (now (s .entry)) at ⌝ }
 {
     match points::read_point(kept, s, at) {
-        PointRead::At(point, _, n) => {
-            Look::Whole(
+        PointRead::At(taken) => {
+            let point = taken.value;
+            without_list(
                 Parameters::OnePoint(point),
-                no_run(),
-                n,
+                taken.next,
                 memory::with_point(kept, point),
             )
         }
-        PointRead::NoPoint(e, p) => Look::Broken(e, p),
+        PointRead::Refused(e, p) => ParametersRead::Refused(e, p),
     }
 }
 
-// The second corner follows from the first.
-fn look_corners(kept: Remembered, s: &[u8], at: usize) -> Look
+// The second point follows from the first.
+fn look_two_points(kept: Remembered, s: &[u8], at: usize) -> ParametersRead
     ensures { λ r. ⌜ lookOf r ≡ parametersAt kept (shapeOf Kind.TwoPoints) (now (s .entry)) at ⌝ }
 {
     match points::read_point(kept, s, at) {
-        PointRead::At(one, _, n) => {
+        PointRead::At(first) => {
+            let one = first.value;
             let then = memory::with_point(kept, one);
-            match points::read_point(then, s, n) {
-                PointRead::At(two, _, m) => {
-                    Look::Whole(
-                        Parameters::Corners(one, two),
-                        no_run(),
-                        m,
+            match points::read_point(then, s, first.next) {
+                PointRead::At(second) => {
+                    let two = second.value;
+                    without_list(
+                        Parameters::TwoPoints(one, two),
+                        second.next,
                         memory::with_point(then, two),
                     )
                 }
-                PointRead::NoPoint(e, p) => Look::Broken(e, p),
+                PointRead::Refused(e, p) => ParametersRead::Refused(e, p),
             }
         }
-        PointRead::NoPoint(e, p) => Look::Broken(e, p),
+        PointRead::Refused(e, p) => ParametersRead::Refused(e, p),
     }
 }
 
-fn list_of(entry: Entry) -> Parameters
-    ensures { λ r. ⌜ r ≡ listed entry ⌝ }
+fn only_list(entry: Entry) -> Parameters
+    ensures { λ r. ⌜ r ≡ onlyList entry ⌝ }
 {
     match entry {
-        Entry::AnInteger => Parameters::Array,
-        Entry::ACharacter => Parameters::Text,
+        Entry::AnInteger => Parameters::AnArray,
+        Entry::ACharacter => Parameters::AString,
     }
 }
 
-fn numbered_list_of(a: i32, entry: Entry) -> Parameters
-    ensures { λ r. ⌜ r ≡ numbered a entry ⌝ }
+fn integer_then_list(a: i32, entry: Entry) -> Parameters
+    ensures { λ r. ⌜ r ≡ integerThenList a entry ⌝ }
 {
     match entry {
-        Entry::AnInteger => Parameters::NumberedArray(a),
-        Entry::ACharacter => Parameters::NumberedText(a),
+        Entry::AnInteger => Parameters::IntegerThenArray(a),
+        Entry::ACharacter => Parameters::IntegerThenString(a),
     }
 }
 
 // A string or an array.
-fn look_list(kept: Remembered, entry: Entry, s: &[u8], at: usize, list: &mut [i32]) -> Look
+fn look_list(
+    kept: Remembered,
+    entry: Entry,
+    s: &[u8],
+    at: usize,
+    list: &mut [i32],
+) -> ParametersRead
     ensures { λ r. ⌜ (lookOf r ≡ parametersAt kept (listShape entry) (now (s .entry)) at) × (now (list .exit) ≡ afterLook (now (s .entry)) (parametersAt kept (listShape entry) (now (s .entry)) at) (now (list .entry))) ⌝ }
 {
     match run_of(kept, entry, s, at, list) {
-        RunRead::Counted(run, n) => Look::Whole(list_of(entry), run, n, kept),
-        RunRead::Uncounted(e, p) => Look::Broken(e, p),
+        RunRead::Counted(run, n) => whole(only_list(entry), run, n, kept),
+        RunRead::Refused(e, p) => ParametersRead::Refused(e, p),
     }
 }
 
 // An integer, then a string or an array.
-fn look_numbered(kept: Remembered, entry: Entry, s: &[u8], at: usize, list: &mut [i32]) -> Look
-    ensures { λ r. ⌜ (lookOf r ≡ parametersAt kept (numberedShape entry) (now (s .entry)) at) × (now (list .exit) ≡ afterLook (now (s .entry)) (parametersAt kept (numberedShape entry) (now (s .entry)) at) (now (list .entry))) ⌝ }
+fn look_integer_then_list(
+    kept: Remembered,
+    entry: Entry,
+    s: &[u8],
+    at: usize,
+    list: &mut [i32],
+) -> ParametersRead
+    ensures { λ r. ⌜ (lookOf r ≡ parametersAt kept (integerThenListShape entry) (now (s .entry)) at) × (now (list .exit) ≡ afterLook (now (s .entry)) (parametersAt kept (integerThenListShape entry) (now (s .entry)) at) (now (list .entry))) ⌝ }
 {
     match numbers::read_integer(kept, s, at) {
-        IntegerRead::Integer(a, _, n) => match run_of(kept, entry, s, n, list) {
-            RunRead::Counted(run, m) => Look::Whole(numbered_list_of(a, entry), run, m, kept),
-            RunRead::Uncounted(e, p) => Look::Broken(e, p),
+        IntegerRead::Integer(a) => match run_of(kept, entry, s, a.next, list) {
+            RunRead::Counted(run, m) => whole(integer_then_list(a.value, entry), run, m, kept),
+            RunRead::Refused(e, p) => ParametersRead::Refused(e, p),
         },
-        IntegerRead::NoInteger(e, p) => Look::Broken(e, p),
+        IntegerRead::Refused(e, p) => ParametersRead::Refused(e, p),
     }
 }
 
 // The parameters of a command of this kind, from `at` on. The entries of a string or an array go to the list if all is good and
 // it has room for all of them.
-pub fn look_at(kept: Remembered, kind: Kind, s: &[u8], at: usize, list: &mut [i32]) -> Look
+pub fn look_at(
+    kept: Remembered,
+    kind: Kind,
+    s: &[u8],
+    at: usize,
+    list: &mut [i32],
+) -> ParametersRead
     ensures { λ r. ⌜ (lookOf r ≡ parametersAt kept (shapeOf kind) (now (s .entry)) at) × (now (list .exit) ≡ afterLook (now (s .entry)) (parametersAt kept (shapeOf kind) (now (s .entry)) at) (now (list .entry))) ⌝ }
 {
     match kind {
-        Kind::AnInteger => look_single(kept, s, at),
-        Kind::TwoIntegers => look_double(kept, s, at),
-        Kind::ThreeIntegers => look_triple(kept, s, at),
-        Kind::APoint => look_point(kept, s, at),
-        Kind::TwoPoints => look_corners(kept, s, at),
-        Kind::AReal => look_scale(kept, s, at),
+        Kind::OneInteger => look_one_integer(kept, s, at),
+        Kind::TwoIntegers => look_two_integers(kept, s, at),
+        Kind::ThreeIntegers => look_three_integers(kept, s, at),
+        Kind::OnePoint => look_one_point(kept, s, at),
+        Kind::TwoPoints => look_two_points(kept, s, at),
+        Kind::AReal => look_real(kept, s, at),
         Kind::AString => look_list(kept, Entry::ACharacter, s, at, list),
         Kind::AnArray => look_list(kept, Entry::AnInteger, s, at, list),
-        Kind::IntegerThenArray => look_numbered(kept, Entry::AnInteger, s, at, list),
-        Kind::IntegerThenString => look_numbered(kept, Entry::ACharacter, s, at, list),
-        Kind::TwoCharacters => look_letters(kept, s, at),
+        Kind::IntegerThenArray => look_integer_then_list(kept, Entry::AnInteger, s, at, list),
+        Kind::IntegerThenString => look_integer_then_list(kept, Entry::ACharacter, s, at, list),
+        Kind::TwoCharacters => look_two_characters(kept, s, at),
+    }
+}
+
+// ---- what the parameters hold
+
+// Whether entries of a list go with the parameters.
+pub fn tail_of(parameters: Parameters) -> Tail
+    ensures { λ r. ⌜ r ≡ tailOf parameters ⌝ }
+{
+    match parameters {
+        Parameters::OneInteger(_) => Tail::NoList,
+        Parameters::TwoIntegers(_, _) => Tail::NoList,
+        Parameters::ThreeIntegers(_, _, _) => Tail::NoList,
+        Parameters::OnePoint(_) => Tail::NoList,
+        Parameters::TwoPoints(_, _) => Tail::NoList,
+        Parameters::AReal(_) => Tail::NoList,
+        Parameters::AString => Tail::ListOf(Entry::ACharacter),
+        Parameters::AnArray => Tail::ListOf(Entry::AnInteger),
+        Parameters::IntegerThenArray(_) => Tail::ListOf(Entry::AnInteger),
+        Parameters::IntegerThenString(_) => Tail::ListOf(Entry::ACharacter),
+        Parameters::TwoCharacters(_, _) => Tail::NoList,
+    }
+}
+
+// The point that is remembered behind the parameters.
+pub fn last_point(parameters: Parameters) -> LastPoint
+    ensures { λ r. ⌜ r ≡ lastPoint (valuesOf parameters) ⌝ }
+{
+    match parameters {
+        Parameters::OnePoint(p) => LastPoint::Last(p),
+        Parameters::TwoPoints(_, q) => LastPoint::Last(q),
+        Parameters::OneInteger(_) => LastPoint::NoPoint,
+        Parameters::TwoIntegers(_, _) => LastPoint::NoPoint,
+        Parameters::ThreeIntegers(_, _, _) => LastPoint::NoPoint,
+        Parameters::AReal(_) => LastPoint::NoPoint,
+        Parameters::AString => LastPoint::NoPoint,
+        Parameters::AnArray => LastPoint::NoPoint,
+        Parameters::IntegerThenArray(_) => LastPoint::NoPoint,
+        Parameters::IntegerThenString(_) => LastPoint::NoPoint,
+        Parameters::TwoCharacters(_, _) => LastPoint::NoPoint,
+    }
+}
+
+fn value_of(coordinate: u16) -> i32
+    ensures { λ r. ⌜ r ≡ pos coordinate ⌝ }
+{
+    coordinate as i32
+}
+
+fn two_numbers(a: i32, b: i32) -> Numbers
+    ensures { λ r. ⌜ r ≡ record { values = a ∷ b ∷ pos 0 ∷ pos 0 ∷ []; len = 2 } ⌝ }
+{
+    Numbers {
+        values: [a, b, 0, 0],
+        len: 2,
+    }
+}
+
+fn one_number(a: i32) -> Numbers
+    ensures { λ r. ⌜ r ≡ record { values = a ∷ pos 0 ∷ pos 0 ∷ pos 0 ∷ []; len = 1 } ⌝ }
+{
+    Numbers {
+        values: [a, 0, 0, 0],
+        len: 1,
+    }
+}
+
+fn no_numbers() -> Numbers
+    ensures { λ r. ⌜ r ≡ record { values = pos 0 ∷ pos 0 ∷ pos 0 ∷ pos 0 ∷ []; len = 0 } ⌝ }
+{
+    Numbers {
+        values: [0, 0, 0, 0],
+        len: 0,
+    }
+}
+
+// The fixed parameters as numbers.
+pub fn numbers_of(parameters: Parameters) -> Numbers
+    ensures { λ r. ⌜ Holds (valuesOf parameters) r ⌝ }
+{
+    match parameters {
+        Parameters::OneInteger(a) => one_number(a),
+        Parameters::TwoIntegers(a, b) => two_numbers(a, b),
+        Parameters::ThreeIntegers(a, b, c) => Numbers {
+            values: [a, b, c, 0],
+            len: 3,
+        },
+        Parameters::OnePoint(p) => two_numbers(value_of(p.x), value_of(p.y)),
+        Parameters::TwoPoints(p, q) => Numbers {
+            values: [value_of(p.x), value_of(p.y), value_of(q.x), value_of(q.y)],
+            len: 4,
+        },
+        Parameters::AReal(r) => two_numbers(r.mantissa, r.exponent),
+        Parameters::AString => no_numbers(),
+        Parameters::AnArray => no_numbers(),
+        Parameters::IntegerThenArray(a) => one_number(a),
+        Parameters::IntegerThenString(a) => one_number(a),
+        Parameters::TwoCharacters(a, b) => two_numbers(a, b),
     }
 }

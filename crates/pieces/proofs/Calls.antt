@@ -10,7 +10,8 @@ use Rattle.table.specs.declared.Kind.the-variants as K
 use Rattle.table.specs.declared.Found.the-variants.{Is}
 use Rattle.table.specs.Table.{kindOf}
 use Rattle.parameters.specs.declared.Entry.the-variants.{AnInteger}
-use Rattle.parameters.specs.Shapes.{Part, single, Tail, Shape, Value, number, scaled, place, shapeOf}
+use Rattle.parameters.specs.declared.Tail.{Tail}
+use Rattle.parameters.specs.Shapes.{Part, single, Shape, Value, number, scaled, place, shapeOf}
 use Rattle.commands.specs.Reading.{Meaning, commandAt}
 use Rattle.laws.proofs.RoundTrip.{partOf}
 use Rattle.laws.proofs.Shortest.{command-shown}
@@ -23,12 +24,12 @@ one-integer (scaled m x ∷ []) e = let z : _≡_ {A = ℕ} 0 1 = cc in absurd (
 one-integer (place p ∷ []) e = let z : _≡_ {A = ℕ} 0 1 = cc in absurd (omega arith)
 one-integer (v ∷ w ∷ vs) e = let z : _≡_ {A = ℕ} 0 1 = cc in absurd (omega arith)
 
-kind-is : (k : Kind) → kindOf 75 88 ≡ Is k → k ≡ K.AnInteger
+kind-is : (k : Kind) → kindOf 75 88 ≡ Is k → k ≡ K.OneInteger
 unfolding kindOf
 kind-is k e = cc
 
-pub call-single : (kept : Remembered) (s : List ℕ) (start room : ℕ) {m : Meaning} → commandAt kept s start room ≡ done m → m .first ≡ 75 → m .second ≡ 88 → m .values ≡ number AnInteger (leading (m .values)) ∷ []
-call-single kept s start room {m = m} e a b =
+pub call-integer : (kept : Remembered) (s : List ℕ) (start room : ℕ) {m : Meaning} → commandAt kept s start room ≡ done m → m .first ≡ 75 → m .second ≡ 88 → m .values ≡ number AnInteger (leading (m .values)) ∷ []
+call-integer kept s start room {m = m} e a b =
     let f = command-shown kept s start room e in
-    let k : f .kind ≡ K.AnInteger = kind-is (f .kind) (ap (λ (x : ℕ). kindOf x 88) (sym a) ∙ ap (kindOf (m .first)) (sym b) ∙ f .known) in
+    let k : f .kind ≡ K.OneInteger = kind-is (f .kind) (ap (λ (x : ℕ). kindOf x 88) (sym a) ∙ ap (kindOf (m .first)) (sym b) ∙ f .known) in
     one-integer (m .values) (sym (ap (λ (x : Shape). x .fixed) (f .shape-is)) ∙ ap (λ (x : Kind). shapeOf x .fixed) k)

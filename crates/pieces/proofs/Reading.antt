@@ -2,12 +2,12 @@
 use Prim.Native.Nat.{ℕ, _+_, _^_, _≤_, _<_}
 use mathlib.Core.Path.{_≡_, refl, sym, _∙_, ap}
 use mathlib.Core.Bool.{Bool, true, false, not, _&&_}
-use mathlib.Core.List.{List}
+use mathlib.Core.List.{List, [], _∷_, _++_}
 use native.Mathlib.Omega.{arith}
 use borrow.Author.Tests.{eq-eqb, ne-eqb, le-ltb, lt-ltb, ltb-true, not-true}
 use lib.Dec.{ltb, eqb}
-use lib.ListN.{length, getD}
-use lib.IntN.{ℤ}
+use lib.ListN.{length, getD, take}
+use lib.IntN.{ℤ, pos}
 use mir.Syntax.{w32}
 use mir.Val.{SFits, toZ, ofZ}
 use mir.Facts.{toZ-ofZ}
@@ -16,19 +16,28 @@ use Rattle.memory.specs.Memory.{inside}
 use Rattle.refusals.specs.declared.Refusal.{Refusal}
 use Rattle.refusals.proofs.Cases.{and-left, and-right}
 use Rattle.parameters.specs.declared.Parameters.{Parameters}
+use Rattle.parameters.specs.declared.Numbers.{Numbers}
+use Rattle.parameters.specs.Numbers.{numbersOf, noValues, fourOf, Holds}
 use Rattle.parameters.specs.Shapes.{Value, valuesOf}
-use Rattle.commands.specs.declared.Command.{Command}
+use Rattle.commands.specs.declared.TakenCommand.{TakenCommand}
+use Rattle.stream.specs.declared.TextItem.{TextItem}
+use Rattle.stream.specs.declared.RefusedItem.{RefusedItem}
 use Rattle.stream.specs.declared.Item.{Item}
-use Rattle.stream.specs.declared.Item.the-variants.{Nothing, Text, Done, Refused, NotRead}
+use Rattle.stream.specs.declared.Item.the-variants.{Nothing, Text}
 use Rattle.stream.specs.Items.{itemOf, itemAt, toldItem}
 use Rattle.pieces.specs.declared.Piece.{Piece}
-use Rattle.pieces.specs.declared.Piece.the-variants.{End, Copied, Called, Broken}
+use Rattle.pieces.specs.declared.Piece.the-variants.{End, Copied, Called}
 use Rattle.pieces.specs.Pieces.{isCall, leading, commandPiece, pieceOf, pieceAt, isText}
 
 -- ---- a command
 
-pub leads : {p q : Parameters} {a : ℤ} → p ≡ q → leading (valuesOf q) ≡ a → a ≡ leading (valuesOf p)
-leads e g = sym (ap (λ x. leading (valuesOf x)) e ∙ g)
+first-of-four : (l : List ℤ) → getD (take 4 (l ++ noValues)) 0 (pos 0) ≡ getD l 0 (pos 0)
+first-of-four [] = refl
+first-of-four (v ∷ vs) = refl
+
+pub leads : (ps : Parameters) {r : Numbers} → Holds (valuesOf ps) r → getD (r .values) 0 (pos 0) ≡ leading (valuesOf ps)
+unfolding fourOf
+leads ps h = ap (λ (l : List ℤ). getD l 0 (pos 0)) (h .four) ∙ first-of-four (numbersOf (valuesOf ps))
 
 module _ (first second : ℕ) (values : List Value) (next : ℕ) (after : Remembered) {b : Bool} (eb : b ≡ isCall first second) where
   pub is-called : {a : ℤ} → b ≡ true → SFits w32 a → a ≡ leading values → Called (toZ w32 (ofZ w32 a)) next after ≡ commandPiece first second values next after
@@ -50,23 +59,23 @@ module _ (kept : Remembered) (s : List ℕ) (start : ℕ) {r : Item} (er : itemO
   unfolding pieceOf itemOf
   none-left e = said e
 
-  pub text-copied : {b n : ℕ} → r ≡ Text b n → Copied n kept ≡ pieceAt kept s start
+  pub text-copied : {t : TextItem} → r ≡ Text t → Copied (t .next) kept ≡ pieceAt kept s start
   unfolding pieceOf itemOf
   text-copied e = said e
 
-  pub command-told : {c : Command} {k n : ℕ} {m : Remembered} {p : Piece} → r ≡ Done c k n m → p ≡ commandPiece (c .first) (c .second) (valuesOf (c .parameters)) n m → p ≡ pieceAt kept s start
+  pub command-told : {t : TakenCommand} {p : Piece} → r ≡ Item.Command t → p ≡ commandPiece (t .command .first) (t .command .second) (valuesOf (t .command .parameters)) (t .next) (t .kept) → p ≡ pieceAt kept s start
   unfolding pieceOf itemOf
   command-told e j = j ∙ said e
 
-  pub refused-broken : {x : Refusal} {p n : ℕ} {m : Remembered} → r ≡ Refused x p n m → Broken ≡ pieceAt kept s start
+  pub refused-command : {i : RefusedItem} → r ≡ Item.RefusedCommand i → Piece.Refused ≡ pieceAt kept s start
   unfolding pieceOf itemOf
-  refused-broken e = said e
+  refused-command e = said e
 
-  pub unread-broken : {x : Refusal} {p : ℕ} → r ≡ NotRead x p → Broken ≡ pieceAt kept s start
+  pub refused-call : {x : Refusal} {p : ℕ} → r ≡ Item.Refused x p → Piece.Refused ≡ pieceAt kept s start
   unfolding pieceOf itemOf
-  unread-broken e = said e
+  refused-call e = said e
 
-pub ruleset readings = (none-left, text-copied, command-told, refused-broken, unread-broken)
+pub ruleset readings = (none-left, text-copied, command-told, refused-command, refused-call)
 
 -- ---- a text byte
 

@@ -14,10 +14,10 @@ use Rattle.refusals.specs.Answers.{pick}
 use Rattle.refusals.proofs.Cases.{by-pick}
 use Rattle.parameters.specs.Shapes.{Value}
 use Rattle.commands.specs.Reading.{Meaning}
-use Rattle.stream.specs.Items.{Itemed, nothing, text, command, trouble, unread, itemAt, toldItem}
+use Rattle.stream.specs.Items.{Itemed, nothing, text, command, refusedCommand, refusedCall, itemAt, toldItem}
 use Rattle.laws.proofs.Partition.{Ends, item-ends}
 use Rattle.pieces.specs.declared.Piece.{Piece}
-use Rattle.pieces.specs.declared.Piece.the-variants.{End, Copied, Called, Broken}
+use Rattle.pieces.specs.declared.Piece.the-variants.{End, Copied, Called}
 use Rattle.pieces.specs.Pieces.{isCall, commandPiece, pieceOf, pieceAt}
 
 -- where a piece that starts at start goes on
@@ -25,7 +25,7 @@ unfoldable Onward : List ℕ → ℕ → Piece → Type 0
 Onward s start End = Unit {0}
 Onward s start (Copied n k) = (start < n) × (n ≤ length s)
 Onward s start (Called a n k) = (start < n) × (n ≤ length s)
-Onward s start Broken = Unit {0}
+Onward s start Piece.Refused = Unit {0}
 
 command-onward : (s : List ℕ) (start first second : ℕ) (values : List Value) (n : ℕ) (k : Remembered) → (start < n) × (n ≤ length s) → Onward s start (commandPiece first second values n k)
 unfolding commandPiece Onward
@@ -36,8 +36,8 @@ unfolding Onward Ends pieceOf toldItem
 item-onward kept s start nothing h = tt
 item-onward kept s start (text b n) h = h
 item-onward kept s start (command m) h = command-onward s start (m .first) (m .second) (m .values) (m .next) (m .kept) (h .0)
-item-onward kept s start (trouble e p n k) h = tt
-item-onward kept s start (unread e p) h = tt
+item-onward kept s start (refusedCommand e p n k) h = tt
+item-onward kept s start (refusedCall e p) h = tt
 
 -- what is outside the bytes, or remembered outside, is no piece
 none-here : (kept : Remembered) (s : List ℕ) (start : ℕ) → length s ≤ start → Onward s start (pieceOf kept (toldItem (itemAt kept s start 256)))
@@ -77,7 +77,7 @@ unfoldable Keeps : Piece → Type 0
 Keeps End = Unit {0}
 Keeps (Copied n k) = inside (k .point) ≡ true
 Keeps (Called a n k) = inside (k .point) ≡ true
-Keeps Broken = Unit {0}
+Keeps Piece.Refused = Unit {0}
 
 command-keeps : (first second : ℕ) (values : List Value) (n : ℕ) (k : Remembered) → inside (k .point) ≡ true → Keeps (commandPiece first second values n k)
 unfolding commandPiece Keeps
@@ -88,8 +88,8 @@ unfolding Keeps Ends pieceOf toldItem
 item-keeps kept s start j nothing h = tt
 item-keeps kept s start j (text b n) h = j
 item-keeps kept s start j (command m) h = command-keeps (m .first) (m .second) (m .values) (m .next) (m .kept) (h .1)
-item-keeps kept s start j (trouble e p n k) h = tt
-item-keeps kept s start j (unread e p) h = tt
+item-keeps kept s start j (refusedCommand e p n k) h = tt
+item-keeps kept s start j (refusedCall e p) h = tt
 
 module _ (kept : Remembered) (s : List ℕ) (start : ℕ) (j : inside (kept .point) ≡ true) where
   keeps : start < length s → Keeps (pieceAt kept s start)

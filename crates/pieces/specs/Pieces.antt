@@ -8,11 +8,13 @@ use lib.IntN.{ℤ, pos}
 use Rattle.memory.specs.declared.Remembered.{Remembered}
 use Rattle.memory.specs.Memory.{inside}
 use Rattle.refusals.specs.Answers.{pick}
-use Rattle.parameters.specs.Shapes.{Value, number, scaled, place}
-use Rattle.commands.specs.Reading.{Told}
-use Rattle.stream.specs.Items.{Itemed, nothing, text, command, trouble, unread, itemAt, toldItem}
+use Rattle.ranges.specs.Ranges.{mostEntries}
+use Rattle.parameters.specs.Shapes.{Value}
+use Rattle.parameters.specs.Numbers.{numbersOf}
+use Rattle.commands.specs.Reading.{ToldCommand}
+use Rattle.stream.specs.Items.{Itemed, nothing, text, command, refusedCommand, refusedCall, itemAt, toldItem}
 use Rattle.pieces.specs.declared.Piece.{Piece}
-use Rattle.pieces.specs.declared.Piece.the-variants.{End, Copied, Called, Broken}
+use Rattle.pieces.specs.declared.Piece.the-variants.{End, Copied, Called}
 
 -- the letters KX
 abbrev pub isCall : (first second : ℕ) → Bool
@@ -20,26 +22,19 @@ isCall first second = eqb first 75 && eqb second 88
 
 -- the number that stands first; KX has this one alone
 abbrev pub leading : List Value → ℤ
-leading [] = pos 0
-leading (number e a ∷ vs) = a
-leading (scaled m x ∷ vs) = pos 0
-leading (place p ∷ vs) = pos 0
+leading vs = getD (numbersOf vs) 0 (pos 0)
 
 unfoldable pub commandPiece : (first second : ℕ) → List Value → ℕ → Remembered → Piece
 commandPiece first second values next after = pick (isCall first second) (Called (leading values) next after) (Copied next after)
 
 -- "17: macro body holds a refused or cut command"; KD and KO are commands like others here. From a start within the body and a point inside,
 -- and with room for the most entries, an item is always read.
-unfoldable pub pieceOf : Remembered → Itemed Told → Piece
+unfoldable pub pieceOf : Remembered → Itemed ToldCommand → Piece
 pieceOf kept nothing = End
 pieceOf kept (text b n) = Copied n kept
 pieceOf kept (command t) = commandPiece (t .first) (t .second) (t .values) (t .next) (t .kept)
-pieceOf kept (trouble e p n k) = Broken
-pieceOf kept (unread e p) = Broken
-
--- the most entries of an array or a string
-abbrev pub mostEntries : ℕ
-mostEntries = 256
+pieceOf kept (refusedCommand e p n k) = Piece.Refused
+pieceOf kept (refusedCall e p) = Piece.Refused
 
 unfoldable pub pieceAt : Remembered → List ℕ → ℕ → Piece
 pieceAt kept body start = pieceOf kept (toldItem (itemAt kept body start mostEntries))

@@ -3,7 +3,7 @@
 ghost use mathlib.Core.Path.{_≡_};
 ghost use Rattle.parameters.specs.Shapes.{valuesOf};
 ghost use Rattle.pieces.specs.Pieces.{isCall, leading, commandPiece, isText, pieceAt};
-use commands::Command;
+use commands::TakenCommand;
 use memory::Remembered;
 use parameters::Parameters;
 use stream::Item;
@@ -16,7 +16,7 @@ pub enum Piece {
     // KX: its number, where the next item starts, and what is then remembered
     Called(i32, usize, Remembered),
     // a refused or cut command
-    Broken,
+    Refused,
 }
 
 // The letters of a macro's call.
@@ -29,32 +29,23 @@ fn is_call(first: u8, second: u8) -> bool
     false
 }
 
-// The first of the integers or characters of a command; the parameters of KX are one integer.
+// The first number of a command; the parameters of KX are one integer.
 fn leading_number(parameters: Parameters) -> i32
     ensures { λ r. ⌜ r ≡ leading (valuesOf parameters) ⌝ }
 {
-    match parameters {
-        Parameters::Single(a) => a,
-        Parameters::Double(a, _) => a,
-        Parameters::Triple(a, _, _) => a,
-        Parameters::Letters(a, _) => a,
-        Parameters::NumberedText(a) => a,
-        Parameters::NumberedArray(a) => a,
-        Parameters::OnePoint(_) => 0,
-        Parameters::Corners(_, _) => 0,
-        Parameters::Scale(_) => 0,
-        Parameters::Text => 0,
-        Parameters::Array => 0,
-    }
+    let numbers = parameters::numbers_of(parameters);
+    let values = numbers.values;
+    values[0]
 }
 
-fn command_piece(command: Command, next: usize, after: Remembered) -> Piece
-    ensures { λ r. ⌜ r ≡ commandPiece (command .first) (command .second) (valuesOf (command .parameters)) next after ⌝ }
+fn command_piece(taken: TakenCommand) -> Piece
+    ensures { λ r. ⌜ r ≡ commandPiece (taken .command .first) (taken .command .second) (valuesOf (taken .command .parameters)) (taken .next) (taken .kept) ⌝ }
 {
-    let first = command.first;
-    let second = command.second;
-    let parameters = command.parameters;
-    if is_call(first, second) {
+    let command = taken.command;
+    let next = taken.next;
+    let after = taken.kept;
+    if is_call(command.first, command.second) {
+        let parameters = command.parameters;
         let number = leading_number(parameters);
         return Piece::Called(number, next, after);
     }
@@ -68,10 +59,10 @@ fn piece_of_item(kept: Remembered, body: &[u8], start: usize) -> Piece
     let mut list = [0; 256];
     match stream::read_item(kept, body, start, &mut list) {
         Item::Nothing => Piece::End,
-        Item::Text(_, next) => Piece::Copied(next, kept),
-        Item::Done(command, _, next, after) => command_piece(command, next, after),
-        Item::Refused(_, _, _, _) => Piece::Broken,
-        Item::NotRead(_, _) => Piece::Broken,
+        Item::Text(text) => Piece::Copied(text.next, kept),
+        Item::Command(taken) => command_piece(taken),
+        Item::RefusedCommand(_) => Piece::Refused,
+        Item::Refused(_, _) => Piece::Refused,
     }
 }
 

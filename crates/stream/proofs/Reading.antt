@@ -17,13 +17,13 @@ use Rattle.refusals.specs.declared.Refusal.the-variants.{NotValid}
 use Rattle.refusals.specs.Refusals.{numberOf}
 use Rattle.refusals.specs.Answers.{Answer, done, refused}
 use Rattle.refusals.proofs.Cases.{by-pick}
-use Rattle.commands.specs.declared.Command.{Command}
+use Rattle.commands.specs.declared.TakenCommand.{TakenCommand}
 use Rattle.commands.specs.declared.CommandRead.{CommandRead}
-use Rattle.commands.specs.declared.CommandRead.the-variants.{Whole, Broken}
-use Rattle.commands.specs.Reading.{Meaning, Told, tell, told, commandOf, commandAt, afterEntries}
+use Rattle.commands.specs.declared.CommandRead.the-variants.{Whole}
+use Rattle.commands.specs.Reading.{Meaning, ToldCommand, tell, told, commandOf, commandAt, afterEntries}
 use Rattle.stream.specs.declared.Item.{Item}
-use Rattle.stream.specs.declared.Item.the-variants.{Nothing, Text, Done, Refused, NotRead}
-use Rattle.stream.specs.Items.{Itemed, nothing, text, command, unread, passed, passedFrom, asItem, commandItem, itemAt, toldItem, itemOf, afterItem}
+use Rattle.stream.specs.declared.Item.the-variants.{Nothing, Text}
+use Rattle.stream.specs.Items.{Itemed, nothing, text, command, refusedCall, passed, passedFrom, asItem, commandItem, itemAt, toldItem, itemOf, afterItem}
 
 -- ---- passing over
 
@@ -62,15 +62,15 @@ passing-end s at i f h =
 apart : {A : Type 0} {t : A} {e p : ℕ} → done t ≡ refused e p → ⊥
 apart q = let z : _≡_ {A = ℕ} 0 1 = cc in omega arith
 
-whole-of : (kept : Remembered) (s : List ℕ) (a : Answer Meaning) (t : Told) → done t ≡ told a → command t ≡ toldItem (asItem kept s a)
+whole-of : (kept : Remembered) (s : List ℕ) (a : Answer Meaning) (t : ToldCommand) → done t ≡ told a → command t ≡ toldItem (asItem kept s a)
 unfolding told toldItem
 whole-of kept s (done m) t e = let q : t ≡ tell m = cc in ap command q
 whole-of kept s (refused x p) t e = absurd (apart e)
 
-broken-of : (a : Answer Meaning) (x p : ℕ) → refused x p ≡ told a → a ≡ refused x p
+refused-of : (a : Answer Meaning) (x p : ℕ) → refused x p ≡ told a → a ≡ refused x p
 unfolding told
-broken-of (done m) x p e = absurd (apart (sym e))
-broken-of (refused y q) x p e = let i : y ≡ x = cc in let j : q ≡ p = cc in rw (i, j)
+refused-of (done m) x p e = absurd (apart (sym e))
+refused-of (refused y q) x p e = let i : y ≡ x = cc in let j : q ≡ p = cc in rw (i, j)
 
 -- the list behind an item is that behind its command
 list-same : (kept : Remembered) (s : List ℕ) (a : Answer Meaning) (l : List ℤ) → afterEntries a l ≡ afterItem (asItem kept s a) l
@@ -84,32 +84,32 @@ module _ (kept : Remembered) (s : List ℕ) (start room : ℕ) where
   list-kept l j = j ∙ list-same kept s (commandAt kept s start room) l
 
   module _ {r : CommandRead} (er : commandOf r ≡ told (commandAt kept s start room)) where
-    pub item-done : {c : Command} {k n : ℕ} {m : Remembered} → r ≡ Whole c k n m → itemOf (Done c k n m) ≡ toldItem (commandItem kept s start room)
+    pub item-whole : {t : TakenCommand} → r ≡ Whole t → itemOf (Item.Command t) ≡ toldItem (commandItem kept s start room)
     unfolding commandItem itemOf commandOf
-    item-done g = whole-of kept s (commandAt kept s start room) _ (sym (rw g) ∙ er)
+    item-whole g = whole-of kept s (commandAt kept s start room) _ (sym (rw g) ∙ er)
 
-    module _ {x : Refusal} {p : ℕ} (g : r ≡ Broken x p) {v : ℕ} (ev : v ≡ numberOf x) where
-      broken : commandAt kept s start room ≡ refused (numberOf x) p
+    module _ {x : Refusal} {p : ℕ} (g : r ≡ CommandRead.Refused x p) {v : ℕ} (ev : v ≡ numberOf x) where
+      refused-there : commandAt kept s start room ≡ refused (numberOf x) p
       unfolding commandOf
-      broken = broken-of (commandAt kept s start room) (numberOf x) p (sym (rw g) ∙ er)
+      refused-there = refused-of (commandAt kept s start room) (numberOf x) p (sym (rw g) ∙ er)
 
-      pub item-unread : v ≡ 7 → itemOf (NotRead x p) ≡ toldItem (commandItem kept s start room)
+      pub item-refused-call : v ≡ 7 → itemOf (Item.Refused x p) ≡ toldItem (commandItem kept s start room)
       unfolding commandItem itemOf toldItem
-      item-unread h = rw (broken, ← ev, eq-eqb v 7 h)
+      item-refused-call h = rw (refused-there, ← ev, eq-eqb v 7 h)
 
-      pub item-refused : {n : ℕ} → (v ≡ 7 → ⊥) → n ≡ passedFrom s p → itemOf (Refused x p n kept) ≡ toldItem (commandItem kept s start room)
+      pub item-refused-command : {n : ℕ} → (v ≡ 7 → ⊥) → n ≡ passedFrom s p → itemOf (Item.RefusedCommand (record { refusal = x; place = p; next = n; kept = kept })) ≡ toldItem (commandItem kept s start room)
       unfolding commandItem itemOf toldItem
-      item-refused h j = rw (broken, ← ev, ne-eqb v 7 h, j)
+      item-refused-command h j = rw (refused-there, ← ev, ne-eqb v 7 h, j)
 
 -- ---- any item
 
 module _ (kept : Remembered) (s : List ℕ) (start room : ℕ) where
   module _ (h : length s < start) where
-    past : itemAt kept s start room ≡ unread 8 0
+    past : itemAt kept s start room ≡ refusedCall 8 0
     unfolding itemAt
     past = rw (lt-ltb (length s) start h)
 
-    pub past-item : itemOf (NotRead NotValid 0) ≡ toldItem (itemAt kept s start room)
+    pub past-item : itemOf (Item.Refused NotValid 0) ≡ toldItem (itemAt kept s start room)
     unfolding itemOf toldItem
     past-item = rw past
 
@@ -119,11 +119,11 @@ module _ (kept : Remembered) (s : List ℕ) (start room : ℕ) where
 
   module _ (h : start ≤ length s) {t : Bool} (et : t ≡ inside (kept .point)) where
     module _ (g : t ≡ false) where
-      outside : itemAt kept s start room ≡ unread 8 0
+      outside : itemAt kept s start room ≡ refusedCall 8 0
       unfolding itemAt
       outside = rw (le-ltb (length s) start h, ← et, g)
 
-      pub outside-item : itemOf (NotRead NotValid 0) ≡ toldItem (itemAt kept s start room)
+      pub outside-item : itemOf (Item.Refused NotValid 0) ≡ toldItem (itemAt kept s start room)
       unfolding itemOf toldItem
       outside-item = rw outside
 
@@ -151,7 +151,7 @@ module _ (kept : Remembered) (s : List ℕ) (start room : ℕ) where
           unfolding itemAt
           plain = rw (le-ltb (length s) start h, ← et, g, lt-ltb start (length s) k, ne-eqb (getD s start 0) 27 e)
 
-          pub text-item : itemOf (Text (getD s start 0) (start + 1)) ≡ toldItem (itemAt kept s start room)
+          pub text-item : itemOf (Text (record { byte = getD s start 0; next = start + 1 })) ≡ toldItem (itemAt kept s start room)
           unfolding itemOf toldItem
           text-item = rw plain
 
@@ -164,7 +164,7 @@ module _ (kept : Remembered) (s : List ℕ) (start room : ℕ) where
           unfolding itemAt
           escape = rw (le-ltb (length s) start h, ← et, g, lt-ltb start (length s) k, eq-eqb (getD s start 0) 27 e)
 
-          pub escape-item : {q : Itemed Told} → q ≡ toldItem (commandItem kept s start room) → q ≡ toldItem (itemAt kept s start room)
+          pub escape-item : {q : Itemed ToldCommand} → q ≡ toldItem (commandItem kept s start room) → q ≡ toldItem (itemAt kept s start room)
           escape-item j = rw escape j
 
           pub escape-list : (l : List ℤ) {o : List ℤ} → o ≡ afterItem (commandItem kept s start room) l → o ≡ afterItem (itemAt kept s start room) l

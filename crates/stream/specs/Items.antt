@@ -10,10 +10,9 @@ use Rattle.memory.specs.declared.Remembered.{Remembered}
 use Rattle.memory.specs.Memory.{inside}
 use Rattle.refusals.specs.Refusals.{numberOf}
 use Rattle.refusals.specs.Answers.{Answer, done, refused, pick}
-use Rattle.parameters.specs.Shapes.{valuesOf, tailOf}
-use Rattle.commands.specs.Reading.{Meaning, Told, tell, commandAt}
+use Rattle.commands.specs.Reading.{Meaning, ToldCommand, tell, tellTaken, commandAt}
 use Rattle.stream.specs.declared.Item.{Item}
-use Rattle.stream.specs.declared.Item.the-variants.{Nothing, Text, Done, Refused, NotRead}
+use Rattle.stream.specs.declared.Item.the-variants.{Nothing, Text}
 
 -- an item: none is left; a text byte and the next start; a command; a refused command with its number, its place, the next start and
 -- what is remembered; or no item at all, for a number and its place
@@ -21,8 +20,8 @@ pub data Itemed (A : Type 0) : Type 0 where
   nothing : Itemed A
   text : ℕ → ℕ → Itemed A
   command : A → Itemed A
-  trouble : ℕ → ℕ → ℕ → Remembered → Itemed A
-  unread : ℕ → ℕ → Itemed A
+  refusedCommand : ℕ → ℕ → ℕ → Remembered → Itemed A
+  refusedCall : ℕ → ℕ → Itemed A
 
 -- how many bytes stand before the next 27
 abbrev pub passed : List ℕ → ℕ
@@ -36,7 +35,7 @@ passedFrom s at = at + passed (drop at s)
 -- before it"
 abbrev pub asItem : Remembered → List ℕ → Answer Meaning → Itemed Meaning
 asItem kept s (done m) = command m
-asItem kept s (refused e p) = pick (eqb e 7) (unread e p) (trouble e p (passedFrom s p) kept)
+asItem kept s (refused e p) = pick (eqb e 7) (refusedCall e p) (refusedCommand e p (passedFrom s p) kept)
 
 unfoldable pub commandItem : Remembered → List ℕ → ℕ → ℕ → Itemed Meaning
 commandItem kept s start room = asItem kept s (commandAt kept s start room)
@@ -46,33 +45,32 @@ commandItem kept s start room = asItem kept s (commandAt kept s start room)
 unfoldable pub itemAt : Remembered → List ℕ → ℕ → ℕ → Itemed Meaning
 itemAt kept s start room =
     pick (ltb (length s) start)
-    (unread 8 0)
+    (refusedCall 8 0)
     (pick (inside (kept .point))
     (pick (ltb start (length s))
     (pick (eqb (getD s start 0) 27) (commandItem kept s start room) (text (getD s start 0) (start + 1)))
     nothing)
-    (unread 8 0))
+    (refusedCall 8 0))
 
 -- ---- what the answer says, and the lent list behind it
 
-unfoldable pub toldItem : Itemed Meaning → Itemed Told
+unfoldable pub toldItem : Itemed Meaning → Itemed ToldCommand
 toldItem nothing = nothing
 toldItem (text b n) = text b n
 toldItem (command m) = command (tell m)
-toldItem (trouble e p n k) = trouble e p n k
-toldItem (unread e p) = unread e p
+toldItem (refusedCommand e p n k) = refusedCommand e p n k
+toldItem (refusedCall e p) = refusedCall e p
 
-unfoldable pub itemOf : Item → Itemed Told
+unfoldable pub itemOf : Item → Itemed ToldCommand
 itemOf Nothing = nothing
-itemOf (Text b n) = text b n
-itemOf (Done c k n m) =
-    command (record { first = c .first; second = c .second; values = valuesOf (c .parameters); tail = tailOf (c .parameters); count = k; next = n; kept = m })
-itemOf (Refused e p n k) = trouble (numberOf e) p n k
-itemOf (NotRead e p) = unread (numberOf e) p
+itemOf (Text t) = text (t .byte) (t .next)
+itemOf (Item.Command t) = command (tellTaken t)
+itemOf (Item.RefusedCommand r) = refusedCommand (numberOf (r .refusal)) (r .place) (r .next) (r .kept)
+itemOf (Item.Refused e p) = refusedCall (numberOf e) p
 
 unfoldable pub afterItem : Itemed Meaning → List ℤ → List ℤ
 afterItem nothing l = l
 afterItem (text b n) l = l
 afterItem (command m) l = sets l 0 (m .entries)
-afterItem (trouble e p n k) l = l
-afterItem (unread e p) l = l
+afterItem (refusedCommand e p n k) l = l
+afterItem (refusedCall e p) l = l

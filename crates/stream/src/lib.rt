@@ -2,22 +2,34 @@
 ghost use mathlib.Core.Path.{_≡_};
 ghost use lib.ListN.{length};
 ghost use Rattle.stream.specs.Items.{itemOf, commandItem, itemAt, toldItem, afterItem, passedFrom};
-use commands::Command;
 use commands::CommandRead;
+use commands::TakenCommand;
 use memory::Remembered;
 use refusals::Refusal;
+
+// A byte outside commands, and where the next item starts.
+pub struct TextItem {
+    pub byte: u8,
+    pub next: usize,
+}
+
+// A refused command: the refusal, its place, where the next item starts, and what is remembered, as before it.
+pub struct RefusedItem {
+    pub refusal: Refusal,
+    pub place: usize,
+    pub next: usize,
+    pub kept: Remembered,
+}
 
 pub enum Item {
     // no item is left
     Nothing,
-    // a byte outside commands, and where the next item starts
-    Text(u8, usize),
-    // a command, how many entries the list now has at its front, where the next item starts, and what is then remembered
-    Done(Command, usize, usize, Remembered),
-    // a refused command: the refusal, its place, where the next item starts, and what is remembered, as before it
-    Refused(Refusal, usize, usize, Remembered),
+    Text(TextItem),
+    // a command, with its `parameters::Parameters`
+    Command(TakenCommand),
+    RefusedCommand(RefusedItem),
     // nothing was read and there is no item: the refusal and its place
-    NotRead(Refusal, usize),
+    Refused(Refusal, usize),
 }
 
 // The first place from `at` on that holds an ESC, or the end.
@@ -39,12 +51,19 @@ fn command_item(kept: Remembered, s: &[u8], start: usize, list: &mut [i32]) -> I
     ensures { λ r. ⌜ (itemOf r ≡ toldItem (commandItem kept (now (s .entry)) start (length (now (list .entry))))) × (now (list .exit) ≡ afterItem (commandItem kept (now (s .entry)) start (length (now (list .entry)))) (now (list .entry))) ⌝ }
 {
     match commands::read_command(kept, s, start, list) {
-        CommandRead::Whole(command, count, n, after) => Item::Done(command, count, n, after),
-        CommandRead::Broken(e, p) => {
+        CommandRead::Whole(taken) => Item::Command(taken),
+        CommandRead::Refused(e, p) => {
             if refusals::number(e) == 7 {
-                return Item::NotRead(e, p);
+                return Item::Refused(e, p);
             }
-            Item::Refused(e, p, next_escape(s, p), kept)
+            let next = next_escape(s, p);
+            let refused = RefusedItem {
+                refusal: e,
+                place: p,
+                next: next,
+                kept: kept,
+            };
+            Item::RefusedCommand(refused)
         }
     }
 }
@@ -55,7 +74,7 @@ pub fn read_item(kept: Remembered, s: &[u8], start: usize, list: &mut [i32]) -> 
 {
     let point = kept.point;
     if start > s.len() {
-        return Item::NotRead(Refusal::NotValid, 0);
+        return Item::Refused(Refusal::NotValid, 0);
     }
     if memory::is_inside(point) {
         if start >= s.len() {
@@ -66,7 +85,11 @@ pub fn read_item(kept: Remembered, s: &[u8], start: usize, list: &mut [i32]) -> 
             return command_item(kept, s, start, list);
         }
         let next = start + 1;
-        return Item::Text(b, next);
+        let text = TextItem {
+            byte: b,
+            next: next,
+        };
+        return Item::Text(text);
     }
-    Item::NotRead(Refusal::NotValid, 0)
+    Item::Refused(Refusal::NotValid, 0)
 }

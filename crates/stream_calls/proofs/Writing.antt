@@ -1,102 +1,133 @@
 -- A command that is given by letters and four numbers, and what writing it hands out.
 use Prim.Native.Nat.{ℕ}
 use mathlib.Core.Path.{_≡_, refl, sym, _∙_}
-use mathlib.Core.Bool.{true}
+use mathlib.Core.Bool.{Bool, true, false}
 use mathlib.Core.List.{List}
 use borrow.Author.Tests.{eq-eqb}
-use lib.ListN.{getD}
+use lib.ListN.{length, getD}
 use lib.IntN.{ℤ, pos}
 use mir.Syntax.{w32}
 use mir.Val.{SFits, toZ, ofZ}
 use Rattle.refusals.specs.declared.Refusal.{Refusal}
 use Rattle.refusals.specs.declared.Refusal.the-variants.{NotValid}
+use Rattle.refusals.specs.Refusals.{numberOf}
 use Rattle.refusals.specs.Answers.{Answer, refused, valueOr}
+use Rattle.refusals.proofs.Cases.{bool-apart}
 use Rattle.memory.specs.declared.Point.{Point}
 use Rattle.memory.specs.declared.Remembered.{Remembered}
 use Rattle.memory.specs.Memory.{remember}
-use Rattle.coordinates.specs.Coordinates.{pointOf}
+use Rattle.coordinates.specs.Coordinates.{pointGiven}
 use Rattle.coordinates.proofs.Sides.{point-given}
 use Rattle.wire.specs.declared.Written.{Written}
-use Rattle.wire.specs.declared.Written.the-variants.{Next, NotWritten}
+use Rattle.wire.specs.declared.Written.the-variants.{Next}
 use Rattle.wire.specs.Sending.{writtenOf, writeIf, afterWrite}
+use Rattle.wire.proofs.Handing.{written-done, written-next, written-refused, written-none}
 use Rattle.table.specs.declared.Found.{Found}
 use Rattle.table.specs.declared.Found.the-variants.{Is, NoKind}
 use Rattle.table.specs.declared.Kind.{Kind}
 use Rattle.table.specs.declared.Kind.the-variants as K
 use Rattle.table.specs.Table.{kindOf}
 use Rattle.parameters.specs.declared.Parameters.{Parameters}
-use Rattle.parameters.specs.declared.Parameters.the-variants.{Single, Double, Triple, OnePoint, Corners, Scale, Letters, Text, Array, NumberedText, NumberedArray}
+use Rattle.parameters.specs.declared.Parameters.the-variants.{OneInteger, TwoIntegers, ThreeIntegers, OnePoint, TwoPoints, AReal, TwoCharacters, AString, AnArray, IntegerThenString, IntegerThenArray}
 use Rattle.parameters.specs.Shapes.{valuesOf}
 use Rattle.commands.specs.declared.Command.{Command}
 use Rattle.writable.specs.Writable.{kindFor, kindNumber, isKind, isCommand}
 use Rattle.writing.specs.Writing.{afterValues, spellCommand, writeFitting, writeCommand}
 use Rattle.stream_calls.specs.Slots.{keptIn, twoOf}
-use Rattle.stream_calls.specs.Given.{ofKind, ofFound, commandGiven, keptAfter}
+use Rattle.stream_calls.specs.Given.{ofKind, ofFound, commandGiven, keptAfter, Writes, WrittenCommand}
+use Rattle.stream_calls.specs.declared.Sent.{Sent}
 
 -- ---- the parameters of a kind
 
 module _ {k : Kind} (vs : List ℤ) {a b c d : ℤ} (ea : a ≡ getD vs 0 (pos 0)) (eb : b ≡ getD vs 1 (pos 0)) (ec : c ≡ getD vs 2 (pos 0)) (ed : d ≡ getD vs 3 (pos 0)) where
-  pub kind-integer : k ≡ K.AnInteger → Single a ≡ ofKind k vs
+  pub kind-one-integer : k ≡ K.OneInteger → OneInteger a ≡ ofKind k vs
   unfolding ofKind
-  kind-integer e = rw (e, ea)
+  kind-one-integer e = rw (e, ea)
 
-  pub kind-two : k ≡ K.TwoIntegers → Double a b ≡ ofKind k vs
+  pub kind-two : k ≡ K.TwoIntegers → TwoIntegers a b ≡ ofKind k vs
   unfolding ofKind
   kind-two e = rw (e, ea, eb)
 
-  pub kind-three : k ≡ K.ThreeIntegers → Triple a b c ≡ ofKind k vs
+  pub kind-three : k ≡ K.ThreeIntegers → ThreeIntegers a b c ≡ ofKind k vs
   unfolding ofKind
   kind-three e = rw (e, ea, eb, ec)
 
-  pub kind-real : k ≡ K.AReal → Scale (record { mantissa = a; exponent = b }) ≡ ofKind k vs
+  pub kind-real : k ≡ K.AReal → AReal (record { mantissa = a; exponent = b }) ≡ ofKind k vs
   unfolding ofKind
   kind-real e = rw (e, ea, eb)
 
-  pub kind-string : k ≡ K.AString → Text ≡ ofKind k vs
+  pub kind-string : k ≡ K.AString → AString ≡ ofKind k vs
   unfolding ofKind
   kind-string e = rw e
 
-  pub kind-array : k ≡ K.AnArray → Array ≡ ofKind k vs
+  pub kind-array : k ≡ K.AnArray → AnArray ≡ ofKind k vs
   unfolding ofKind
   kind-array e = rw e
 
-  pub kind-numbered-array : k ≡ K.IntegerThenArray → NumberedArray a ≡ ofKind k vs
+  pub kind-integer-then-array : k ≡ K.IntegerThenArray → IntegerThenArray a ≡ ofKind k vs
   unfolding ofKind
-  kind-numbered-array e = rw (e, ea)
+  kind-integer-then-array e = rw (e, ea)
 
-  pub kind-numbered-string : k ≡ K.IntegerThenString → NumberedText a ≡ ofKind k vs
+  pub kind-integer-then-string : k ≡ K.IntegerThenString → IntegerThenString a ≡ ofKind k vs
   unfolding ofKind
-  kind-numbered-string e = rw (e, ea)
+  kind-integer-then-string e = rw (e, ea)
 
-  pub kind-letters : k ≡ K.TwoCharacters → Letters a b ≡ ofKind k vs
+  pub kind-characters : k ≡ K.TwoCharacters → TwoCharacters a b ≡ ofKind k vs
   unfolding ofKind
-  kind-letters e = rw (e, ea, eb)
+  kind-characters e = rw (e, ea, eb)
 
-  pub kind-corners : SFits w32 a → SFits w32 b → SFits w32 c → SFits w32 d → {p q : Point} → p ≡ pointOf (toZ w32 (ofZ w32 a)) (toZ w32 (ofZ w32 b))
-      → q ≡ pointOf (toZ w32 (ofZ w32 c)) (toZ w32 (ofZ w32 d)) → k ≡ K.TwoPoints → Corners p q ≡ ofKind k vs
+  pub kind-two-points : SFits w32 a → SFits w32 b → SFits w32 c → SFits w32 d → {p q : Point} → p ≡ pointGiven (toZ w32 (ofZ w32 a)) (toZ w32 (ofZ w32 b))
+      → q ≡ pointGiven (toZ w32 (ofZ w32 c)) (toZ w32 (ofZ w32 d)) → k ≡ K.TwoPoints → TwoPoints p q ≡ ofKind k vs
   unfolding ofKind
-  kind-corners fa fb fc fd ep eq e = rw (e, point-given a b fa fb ep, point-given c d fc fd eq, ea, eb, ec, ed)
+  kind-two-points fa fb fc fd ep eq e = rw (e, point-given a b fa fb ep, point-given c d fc fd eq, ea, eb, ec, ed)
 
-pub kind-point : {k : Kind} (vs : List ℤ) {a b : ℤ} → a ≡ getD vs 0 (pos 0) → b ≡ getD vs 1 (pos 0) → SFits w32 a → SFits w32 b
-    → {p : Point} → p ≡ pointOf (toZ w32 (ofZ w32 a)) (toZ w32 (ofZ w32 b)) → k ≡ K.APoint → OnePoint p ≡ ofKind k vs
+pub kind-one-point : {k : Kind} (vs : List ℤ) {a b : ℤ} → a ≡ getD vs 0 (pos 0) → b ≡ getD vs 1 (pos 0) → SFits w32 a → SFits w32 b
+    → {p : Point} → p ≡ pointGiven (toZ w32 (ofZ w32 a)) (toZ w32 (ofZ w32 b)) → k ≡ K.OnePoint → OnePoint p ≡ ofKind k vs
 unfolding ofKind
-kind-point vs {a} {b} ea eb fa fb ep e = rw (e, point-given a b fa fb ep, ea, eb)
+kind-one-point vs {a} {b} ea eb fa fb ep e = rw (e, point-given a b fa fb ep, ea, eb)
 
 -- ---- what is remembered behind a command of a kind
 
+abbrev hasPoint : Kind → Bool
+hasPoint K.OneInteger = false
+hasPoint K.TwoIntegers = false
+hasPoint K.ThreeIntegers = false
+hasPoint K.OnePoint = true
+hasPoint K.TwoPoints = true
+hasPoint K.AReal = false
+hasPoint K.AString = false
+hasPoint K.AnArray = false
+hasPoint K.IntegerThenArray = false
+hasPoint K.IntegerThenString = false
+hasPoint K.TwoCharacters = false
+
+pointless : (kept : Remembered) (k : Kind) (vs : List ℤ) → hasPoint k ≡ false → kept ≡ afterValues kept (valuesOf (ofKind k vs))
+unfolding ofKind afterValues
+pointless kept K.OneInteger vs h = refl
+pointless kept K.TwoIntegers vs h = refl
+pointless kept K.ThreeIntegers vs h = refl
+pointless kept K.OnePoint vs h = absurd (bool-apart (sym h))
+pointless kept K.TwoPoints vs h = absurd (bool-apart (sym h))
+pointless kept K.AReal vs h = refl
+pointless kept K.AString vs h = refl
+pointless kept K.AnArray vs h = refl
+pointless kept K.IntegerThenArray vs h = refl
+pointless kept K.IntegerThenString vs h = refl
+pointless kept K.TwoCharacters vs h = refl
+
 module _ (kept : Remembered) {k : Kind} (vs : List ℤ) where
   -- of a kind without points it is what was remembered before
-  pub kind-keeps : {q : Kind} → k ≡ q → kept ≡ afterValues kept (valuesOf (ofKind q vs)) → kept ≡ afterValues kept (valuesOf (ofKind k vs))
-  kind-keeps e j = rw e j
+  pub kind-keeps : {q : Kind} → k ≡ q → hasPoint q ≡ false → kept ≡ afterValues kept (valuesOf (ofKind k vs))
+  kind-keeps {q = q} e h = rw e (pointless kept q vs h)
 
-  module _ {a b : ℤ} (fa : SFits w32 a) (fb : SFits w32 b) {p : Point} (ep : p ≡ pointOf (toZ w32 (ofZ w32 a)) (toZ w32 (ofZ w32 b))) {m : Remembered} (em : m ≡ remember kept p) where
-    pub point-kept : a ≡ getD vs 0 (pos 0) → b ≡ getD vs 1 (pos 0) → k ≡ K.APoint → m ≡ afterValues kept (valuesOf (ofKind k vs))
+  module _ {a b : ℤ} (fa : SFits w32 a) (fb : SFits w32 b) {p : Point} (ep : p ≡ pointGiven (toZ w32 (ofZ w32 a)) (toZ w32 (ofZ w32 b))) {m : Remembered} (em : m ≡ remember kept p) where
+    pub point-kept : a ≡ getD vs 0 (pos 0) → b ≡ getD vs 1 (pos 0) → k ≡ K.OnePoint → m ≡ afterValues kept (valuesOf (ofKind k vs))
     unfolding ofKind afterValues
     point-kept ea eb e = em ∙ rw (e, point-given a b fa fb ep, ea, eb)
 
-    pub corner-kept : a ≡ getD vs 2 (pos 0) → b ≡ getD vs 3 (pos 0) → k ≡ K.TwoPoints → m ≡ afterValues kept (valuesOf (ofKind k vs))
+    pub second-point-kept : a ≡ getD vs 2 (pos 0) → b ≡ getD vs 3 (pos 0) → k ≡ K.TwoPoints → m ≡ afterValues kept (valuesOf (ofKind k vs))
     unfolding ofKind afterValues
-    corner-kept ea eb e = em ∙ rw (e, point-given a b fa fb ep, ea, eb)
+    second-point-kept ea eb e = em ∙ rw (e, point-given a b fa fb ep, ea, eb)
 
 pub behind-given : (kept : Remembered) (k : Kind) (vs : List ℤ) {ps : Parameters} {m : Remembered} → ps ≡ ofKind k vs → m ≡ afterValues kept (valuesOf (ofKind k vs)) → m ≡ afterValues kept (valuesOf ps)
 behind-given kept k vs e j = rw e j
@@ -106,10 +137,10 @@ behind-given kept k vs e j = rw e j
 -- numbers that were read for a kind make parameters of that kind
 kind-kept : (k : Kind) (vs : List ℤ) → kindFor (ofKind k vs) ≡ k
 unfolding ofKind
-kind-kept K.AnInteger vs = refl
+kind-kept K.OneInteger vs = refl
 kind-kept K.TwoIntegers vs = refl
 kind-kept K.ThreeIntegers vs = refl
-kind-kept K.APoint vs = refl
+kind-kept K.OnePoint vs = refl
 kind-kept K.TwoPoints vs = refl
 kind-kept K.AReal vs = refl
 kind-kept K.AString vs = refl
@@ -132,56 +163,56 @@ module _ (kept : Remembered) (first second : ℕ) (vs es : List ℤ) (room : ℕ
     unfolding isCommand
     same = rw (sym known, fitting)
 
-    pub known-so : {a : Answer ℕ} → a ≡ writeFitting kept (record { first = first; second = second; parameters = ps }) es room → a ≡ writeCommand kept (commandGiven first second vs) es room
-    known-so e = e ∙ same
-
-    pub known-kept : {k : Remembered} → k ≡ keptAfter kept (record { first = first; second = second; parameters = ps }) (writeFitting kept (record { first = first; second = second; parameters = ps }) es room)
-        → k ≡ keptAfter kept (commandGiven first second vs) (writeCommand kept (commandGiven first second vs) es room)
-    known-kept e = e ∙ rw (same, known)
-
-    pub known-out : (out : List ℕ) {o : List ℕ} → o ≡ afterWrite (writeFitting kept (record { first = first; second = second; parameters = ps }) es room) (spellCommand kept (record { first = first; second = second; parameters = ps }) es) out 0
-        → o ≡ afterWrite (writeCommand kept (commandGiven first second vs) es room) (spellCommand kept (commandGiven first second vs) es) out 0
-    known-out out e = e ∙ rw (same, known)
+    pub known-writes : (out : List ℕ) {r : Sent} {left : List ℕ} → Writes kept (record { first = first; second = second; parameters = ps }) es out (writeFitting kept (record { first = first; second = second; parameters = ps }) es room) r left
+        → Writes kept (commandGiven first second vs) es out (writeCommand kept (commandGiven first second vs) es room) r left
+    known-writes out w = record { answered = w .answered ∙ same; remembered = w .remembered ∙ rw (same, known); laid = w .laid ∙ rw (same, known) }
 
   module _ (g : f ≡ NoKind) where
     none : refused 8 0 ≡ writeCommand kept (commandGiven first second vs) es room
     unfolding commandGiven isCommand isKind writeIf
     none = rw (sym ef, g)
 
-    pub unknown-so : writtenOf (NotWritten NotValid) ≡ writeCommand kept (commandGiven first second vs) es room
-    unfolding writtenOf
-    unknown-so = none
-
-    pub unknown-kept : kept ≡ keptAfter kept (commandGiven first second vs) (writeCommand kept (commandGiven first second vs) es room)
-    unfolding keptAfter valueOr
-    unknown-kept = rw (sym none)
-
-    pub unknown-out : (out : List ℕ) → out ≡ afterWrite (writeCommand kept (commandGiven first second vs) es room) (spellCommand kept (commandGiven first second vs) es) out 0
-    unfolding afterWrite
-    unknown-out out = rw (sym none)
+    pub unknown-writes : (out : List ℕ) → Writes kept (commandGiven first second vs) es out (writeCommand kept (commandGiven first second vs) es room) (record { answer = Written.Refused NotValid; kept = kept }) out
+    unfolding writtenOf keptAfter valueOr afterWrite
+    unknown-writes out = record { answered = none; remembered = rw (sym none); laid = rw (sym none) }
 
 -- ---- what is remembered behind a writing
 
-module _ (kept : Remembered) (c : Command) {w : Written} {a : Answer ℕ} (e : writtenOf w ≡ a) where
-  pub written-same : {v : Written} → w ≡ v → writtenOf v ≡ a
-  written-same g = rw (sym g) e
+module _ (kept : Remembered) (c : Command) (es : List ℤ) (out : List ℕ) (w : Written) {a : Answer ℕ} {left : List ℕ} (e : writtenOf w ≡ a) (o : left ≡ afterWrite (writtenOf w) (spellCommand kept c es) out 0) where
+  laid-so : left ≡ afterWrite a (spellCommand kept c es) out 0
+  laid-so = o ∙ rw e
 
-  pub kept-moved : {n : ℕ} → w ≡ Next n → {k : Remembered} → k ≡ afterValues kept (valuesOf (c .parameters)) → k ≡ keptAfter kept c a
-  unfolding writtenOf valueOr keptAfter
-  kept-moved g j = rw (sym e, g) j
+  said-so : {v : Written} → w ≡ v → writtenOf v ≡ a
+  said-so g = rw (sym g) e
 
-  pub kept-same : {f : Refusal} → w ≡ NotWritten f → kept ≡ keptAfter kept c a
+  moved : {n : ℕ} → w ≡ Next n → {k : Remembered} → k ≡ afterValues kept (valuesOf (c .parameters)) → k ≡ keptAfter kept c a
   unfolding writtenOf valueOr keptAfter
-  kept-same g = rw (sym e, g)
+  moved g j = rw (sym e, g) j
+
+  same-kept : {f : Refusal} → w ≡ Written.Refused f → kept ≡ keptAfter kept c a
+  unfolding writtenOf valueOr keptAfter
+  same-kept g = rw (sym e, g)
+
+  pub writes-moved : {n : ℕ} → w ≡ Next n → {k : Remembered} → k ≡ afterValues kept (valuesOf (c .parameters)) → Writes kept c es out a (record { answer = Next n; kept = k }) left
+  writes-moved g j = record { answered = said-so g; remembered = moved g j; laid = laid-so }
+
+  pub writes-same : {f : Refusal} → w ≡ Written.Refused f → Writes kept c es out a (record { answer = Written.Refused f; kept = kept }) left
+  writes-same g = record { answered = said-so g; remembered = same-kept g; laid = laid-so }
 
 -- ---- from the lent point
 
-module _ (l : List ℕ) {k : Remembered} (ek : k ≡ keptIn l) (c : Command) (es : List ℤ) (room : ℕ) where
-  pub answer-so : {a : Answer ℕ} → a ≡ writeCommand k c es room → a ≡ writeCommand (keptIn l) c es room
-  answer-so e = e ∙ rw ek
+module _ (point : List ℕ) {k : Remembered} (ek : k ≡ keptIn point) (c : Command) (es : List ℤ) (out : List ℕ) {s : Sent} {left : List ℕ} (h : Writes k c es out (writeCommand k c es (length out)) s left) {last : List ℕ} (el : last ≡ twoOf (s .kept)) where
+  said : writtenOf (s .answer) ≡ writeCommand (keptIn point) c es (length out)
+  said = h .answered ∙ rw ek
 
-  pub point-so : {m : Remembered} → m ≡ keptAfter k c (writeCommand k c es room) → {x : List ℕ} → x ≡ twoOf m → x ≡ twoOf (keptAfter (keptIn l) c (writeCommand (keptIn l) c es room))
-  point-so e j = j ∙ rw (e, ek)
+  point-so : last ≡ twoOf (keptAfter (keptIn point) c (writeCommand (keptIn point) c es (length out)))
+  point-so = el ∙ rw (h .remembered, ek)
 
-  pub out-so : (out : List ℕ) {o : List ℕ} → o ≡ afterWrite (writeCommand k c es room) (spellCommand k c es) out 0 → o ≡ afterWrite (writeCommand (keptIn l) c es room) (spellCommand (keptIn l) c es) out 0
-  out-so out e = e ∙ rw ek
+  out-so : left ≡ afterWrite (writeCommand (keptIn point) c es (length out)) (spellCommand (keptIn point) c es) out 0
+  out-so = h .laid ∙ rw ek
+
+  pub command-written : {n : ℕ} → s .answer ≡ Next n → WrittenCommand point c es out 0 n last left
+  command-written g = record { answered = written-done said g; counted = written-next said g; remembered = point-so; laid = out-so }
+
+  pub command-refused : {f : Refusal} {n : ℕ} → s .answer ≡ Written.Refused f → n ≡ numberOf f → WrittenCommand point c es out n 0 last left
+  command-refused g j = record { answered = written-refused said g j; counted = written-none said g; remembered = point-so; laid = out-so }

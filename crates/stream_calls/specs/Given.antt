@@ -1,42 +1,46 @@
 -- A command to be written as the header's slots give it: letters, and its fixed parameters in values[4] by the kind of the letters.
 use Prim.Native.Nat.{ℕ}
+use mathlib.Core.Path.{_≡_}
 use mathlib.Core.List.{List}
-use lib.ListN.{getD}
+use lib.ListN.{length, getD}
 use lib.IntN.{ℤ, pos}
 use Rattle.memory.specs.declared.Remembered.{Remembered}
-use Rattle.refusals.specs.Answers.{Answer, valueOr}
+use Rattle.refusals.specs.Answers.{Answer, number, valueOr}
 use Rattle.table.specs.declared.Found.{Found}
 use Rattle.table.specs.declared.Found.the-variants.{Is, NoKind}
 use Rattle.table.specs.declared.Kind.{Kind}
 use Rattle.table.specs.declared.Kind.the-variants as K
 use Rattle.table.specs.Table.{kindOf}
-use Rattle.coordinates.specs.Coordinates.{pointOf}
+use Rattle.coordinates.specs.Coordinates.{pointGiven}
 use Rattle.parameters.specs.declared.Parameters.{Parameters}
-use Rattle.parameters.specs.declared.Parameters.the-variants.{Single, Double, Triple, OnePoint, Corners, Scale, Letters, Text, Array, NumberedText, NumberedArray}
+use Rattle.parameters.specs.declared.Parameters.the-variants.{OneInteger, TwoIntegers, ThreeIntegers, OnePoint, TwoPoints, AReal, TwoCharacters, AString, AnArray, IntegerThenString, IntegerThenArray}
 use Rattle.parameters.specs.Shapes.{valuesOf}
 use Rattle.commands.specs.declared.Command.{Command}
-use Rattle.writing.specs.Writing.{afterValues, writeCommand}
+use Rattle.writing.specs.Writing.{afterValues, spellCommand, writeCommand}
+use Rattle.wire.specs.Sending.{writtenOf, afterWrite}
+use Rattle.stream_calls.specs.declared.Sent.{Sent}
+use Rattle.stream_calls.specs.Slots.{keptIn, twoOf}
 
 abbrev at : List ℤ → ℕ → ℤ
 at vs i = getD vs i (pos 0)
 
 unfoldable pub ofKind : Kind → List ℤ → Parameters
-ofKind K.AnInteger vs = Single (at vs 0)
-ofKind K.TwoIntegers vs = Double (at vs 0) (at vs 1)
-ofKind K.ThreeIntegers vs = Triple (at vs 0) (at vs 1) (at vs 2)
-ofKind K.APoint vs = OnePoint (pointOf (at vs 0) (at vs 1))
-ofKind K.TwoPoints vs = Corners (pointOf (at vs 0) (at vs 1)) (pointOf (at vs 2) (at vs 3))
-ofKind K.AReal vs = Scale (record { mantissa = at vs 0; exponent = at vs 1 })
-ofKind K.AString vs = Text
-ofKind K.AnArray vs = Array
-ofKind K.IntegerThenArray vs = NumberedArray (at vs 0)
-ofKind K.IntegerThenString vs = NumberedText (at vs 0)
-ofKind K.TwoCharacters vs = Letters (at vs 0) (at vs 1)
+ofKind K.OneInteger vs = OneInteger (at vs 0)
+ofKind K.TwoIntegers vs = TwoIntegers (at vs 0) (at vs 1)
+ofKind K.ThreeIntegers vs = ThreeIntegers (at vs 0) (at vs 1) (at vs 2)
+ofKind K.OnePoint vs = OnePoint (pointGiven (at vs 0) (at vs 1))
+ofKind K.TwoPoints vs = TwoPoints (pointGiven (at vs 0) (at vs 1)) (pointGiven (at vs 2) (at vs 3))
+ofKind K.AReal vs = AReal (record { mantissa = at vs 0; exponent = at vs 1 })
+ofKind K.AString vs = AString
+ofKind K.AnArray vs = AnArray
+ofKind K.IntegerThenArray vs = IntegerThenArray (at vs 0)
+ofKind K.IntegerThenString vs = IntegerThenString (at vs 0)
+ofKind K.TwoCharacters vs = TwoCharacters (at vs 0) (at vs 1)
 
 -- letters that are no command's are refused whatever their parameters
 unfoldable pub ofFound : Found → List ℤ → Parameters
 ofFound (Is kind) vs = ofKind kind vs
-ofFound NoKind vs = Text
+ofFound NoKind vs = AString
 
 unfoldable pub commandGiven : (first second : ℕ) → List ℤ → Command
 commandGiven first second vs = record { first = first; second = second; parameters = ofFound (kindOf first second) vs }
@@ -44,3 +48,21 @@ commandGiven first second vs = record { first = first; second = second; paramete
 -- the remembered point behind the command; where it is not written, as it was
 unfoldable pub keptAfter : Remembered → Command → Answer ℕ → Remembered
 keptAfter kept c a = valueOr kept (λ (n : ℕ). afterValues kept (valuesOf (c .parameters))) a
+
+-- ---- what writing leaves: the answer a, what is remembered behind it, and the lent bytes
+
+pub record Writes (kept : Remembered) (c : Command) (es : List ℤ) (out : List ℕ) (a : Answer ℕ) (r : Sent) (left : List ℕ) : Type 0 where
+  pub answered : writtenOf (r .answer) ≡ a
+  pub remembered : r .kept ≡ keptAfter kept c a
+  pub laid : left ≡ afterWrite a (spellCommand kept c es) out 0
+
+-- and ardh_write_command: from the lent point
+module _ (point : List ℕ) (c : Command) (es : List ℤ) (out : List ℕ) where
+  abbrev wrote : Answer ℕ
+  wrote = writeCommand (keptIn point) c es (length out)
+
+  pub record WrittenCommand (answer written : ℕ) (last left : List ℕ) : Type 0 where
+    pub answered : answer ≡ number wrote
+    pub counted : written ≡ valueOr 0 (λ (n : ℕ). n) wrote
+    pub remembered : last ≡ twoOf (keptAfter (keptIn point) c wrote)
+    pub laid : left ≡ afterWrite wrote (spellCommand (keptIn point) c es) out 0

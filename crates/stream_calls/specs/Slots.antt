@@ -1,13 +1,17 @@
 -- An item as the header's slots hold it: item[7], values[4] and the remembered point as two numbers.
 use Prim.Native.Nat.{ℕ, _+_}
-use mathlib.Core.List.{List, [], _∷_, _++_}
-use lib.ListN.{length, getD, take}
-use lib.IntN.{ℤ, pos}
+use mathlib.Core.Path.{_≡_}
+use mathlib.Core.List.{List, [], _∷_}
+use lib.ListN.{length, getD}
+use lib.IntN.{ℤ}
 use Rattle.memory.specs.declared.Remembered.{Remembered}
 use Rattle.parameters.specs.declared.Entry.the-variants.{AnInteger, ACharacter}
-use Rattle.parameters.specs.Shapes.{Value, number, scaled, place, Tail, none, counted}
-use Rattle.commands.specs.Reading.{Told}
-use Rattle.stream.specs.Items.{Itemed, nothing, text, command, trouble, unread}
+use Rattle.parameters.specs.declared.Tail.{Tail}
+use Rattle.parameters.specs.declared.Tail.the-variants.{NoList, ListOf}
+use Rattle.parameters.specs.Shapes.{Value, number, scaled, place}
+use Rattle.parameters.specs.Numbers.{noValues, fourOf}
+use Rattle.commands.specs.Reading.{Meaning, ToldCommand}
+use Rattle.stream.specs.Items.{Itemed, nothing, text, command, refusedCommand, refusedCall, itemAt, toldItem, afterItem}
 
 -- ---- the remembered point
 
@@ -18,21 +22,21 @@ unfoldable pub twoOf : Remembered → List ℕ
 twoOf kept = kept .point .x ∷ kept .point .y ∷ []
 
 -- behind text, behind the last item and where nothing was read it is as it was
-unfoldable pub itemKept : Remembered → Itemed Told → Remembered
+unfoldable pub itemKept : Remembered → Itemed ToldCommand → Remembered
 itemKept kept nothing = kept
 itemKept kept (text b n) = kept
 itemKept kept (command t) = t .kept
-itemKept kept (trouble e p n after) = after
-itemKept kept (unread e p) = kept
+itemKept kept (refusedCommand e p n after) = after
+itemKept kept (refusedCall e p) = kept
 
 -- ---- the number returned
 
-unfoldable pub itemNumber : Itemed Told → ℕ
+unfoldable pub itemNumber : Itemed ToldCommand → ℕ
 itemNumber nothing = 0
 itemNumber (text b n) = 0
 itemNumber (command t) = 0
-itemNumber (trouble e p n kept) = e
-itemNumber (unread e p) = e
+itemNumber (refusedCommand e p n kept) = e
+itemNumber (refusedCall e p) = e
 
 -- ---- item: what it is, the next start, the refusal's place, a byte or the letters, the kind of parameters, the entries
 
@@ -50,38 +54,39 @@ abbrev pub listKind : (alone behind : ℕ) → List Value → ℕ
 listKind alone behind [] = alone
 listKind alone behind (v ∷ vs) = behind
 
-unfoldable pub kindIn : List Value → Tail → ℕ
-kindIn vs none = fixedKind vs
-kindIn vs (counted AnInteger) = listKind 8 9 vs
-kindIn vs (counted ACharacter) = listKind 7 10 vs
+unfoldable pub kindSlot : List Value → Tail → ℕ
+kindSlot vs NoList = fixedKind vs
+kindSlot vs (ListOf AnInteger) = listKind 8 9 vs
+kindSlot vs (ListOf ACharacter) = listKind 7 10 vs
 
 abbrev pub commandFields : (first second kind count next : ℕ) → List ℕ
 commandFields first second kind count next = 2 ∷ next ∷ 0 ∷ first ∷ second ∷ kind ∷ count ∷ []
 
-unfoldable pub itemFields : Itemed Told → List ℕ
+unfoldable pub itemFields : Itemed ToldCommand → List ℕ
 itemFields nothing = 0 ∷ 0 ∷ 0 ∷ 0 ∷ 0 ∷ 0 ∷ 0 ∷ []
 itemFields (text b n) = 1 ∷ n ∷ 0 ∷ b ∷ 0 ∷ 0 ∷ 0 ∷ []
-itemFields (command t) = commandFields (t .first) (t .second) (kindIn (t .values) (t .tail)) (t .count) (t .next)
-itemFields (trouble e p n kept) = 3 ∷ n ∷ p ∷ 0 ∷ 0 ∷ 0 ∷ 0 ∷ []
-itemFields (unread e p) = 4 ∷ 0 ∷ p ∷ 0 ∷ 0 ∷ 0 ∷ 0 ∷ []
+itemFields (command t) = commandFields (t .first) (t .second) (kindSlot (t .values) (t .tail)) (t .count) (t .next)
+itemFields (refusedCommand e p n kept) = 3 ∷ n ∷ p ∷ 0 ∷ 0 ∷ 0 ∷ 0 ∷ []
+itemFields (refusedCall e p) = 4 ∷ 0 ∷ p ∷ 0 ∷ 0 ∷ 0 ∷ 0 ∷ []
 
 -- ---- values: the fixed parameters as numbers, a point as x and y, and 0 in what is left
 
-abbrev pub numbersIn : List Value → List ℤ
-numbersIn [] = []
-numbersIn (number e v ∷ vs) = v ∷ numbersIn vs
-numbersIn (scaled m x ∷ vs) = m ∷ x ∷ numbersIn vs
-numbersIn (place p ∷ vs) = pos (p .x) ∷ pos (p .y) ∷ numbersIn vs
-
-abbrev pub noValues : List ℤ
-noValues = pos 0 ∷ pos 0 ∷ pos 0 ∷ pos 0 ∷ []
-
-unfoldable pub fourOf : List Value → List ℤ
-fourOf vs = take 4 (numbersIn vs ++ noValues)
-
-unfoldable pub itemValues : Itemed Told → List ℤ
+unfoldable pub itemValues : Itemed ToldCommand → List ℤ
 itemValues nothing = noValues
 itemValues (text b n) = noValues
 itemValues (command t) = fourOf (t .values)
-itemValues (trouble e p n kept) = noValues
-itemValues (unread e p) = noValues
+itemValues (refusedCommand e p n kept) = noValues
+itemValues (refusedCall e p) = noValues
+
+-- ---- what ardh_next_item leaves of the lent point, bytes and list
+
+module _ (point bytes : List ℕ) (start : ℕ) (list : List ℤ) where
+  abbrev read : Itemed Meaning
+  read = itemAt (keptIn point) bytes start (length list)
+
+  pub record NextItem (answer : ℕ) (item : List ℕ) (values : List ℤ) (last : List ℕ) (entries : List ℤ) : Type 0 where
+    pub answered : answer ≡ itemNumber (toldItem read)
+    pub slots : item ≡ itemFields (toldItem read)
+    pub numbers : values ≡ itemValues (toldItem read)
+    pub remembered : last ≡ twoOf (itemKept (keptIn point) (toldItem read))
+    pub filled : entries ≡ afterItem read list

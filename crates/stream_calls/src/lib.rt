@@ -1,18 +1,15 @@
 // The stream's calls for programs in other languages (include/ardhrumesh.h): the next item, and writing a command. The answer is a number,
 // what goes with it is written to lent slots, and the remembered point is a lent array.
 ghost use mathlib.Core.Path.{_≡_};
-ghost use Prim.Native.Nat.{ℕ};
 ghost use lib.ListN.{length};
-ghost use lib.IntN.{pos};
-ghost use Rattle.refusals.specs.Answers.{number, valueOr};
-ghost use Rattle.wire.specs.Sending.{writtenOf, afterWrite};
 ghost use Rattle.parameters.specs.Shapes.{valuesOf};
+ghost use Rattle.parameters.specs.Numbers.{fourOf};
 ghost use Rattle.writable.specs.Writable.{kindFor, kindNumber};
-ghost use Rattle.writing.specs.Writing.{afterValues, spellCommand, writeFitting, writeCommand};
-ghost use Rattle.stream.specs.Items.{itemAt, toldItem, afterItem};
-ghost use Rattle.stream_calls.specs.Slots.{keptIn, twoOf, itemKept, itemNumber, commandFields, itemFields, fourOf, itemValues};
-ghost use Rattle.stream_calls.specs.Given.{ofKind, ofFound, commandGiven, keptAfter};
+ghost use Rattle.writing.specs.Writing.{afterValues, writeFitting, writeCommand};
+ghost use Rattle.stream_calls.specs.Slots.{keptIn, twoOf, commandFields, NextItem};
+ghost use Rattle.stream_calls.specs.Given.{ofKind, commandGiven, Writes, WrittenCommand};
 use commands::Command;
+use commands::TakenCommand;
 use memory::Point;
 use memory::Remembered;
 use parameters::Parameters;
@@ -47,46 +44,30 @@ fn two_of(kept: Remembered) -> [u16; 2]
 // ---- the next item
 
 // A whole command's slots: what it is, the next start, no refusal's place, its letters, the kind of its parameters, its entries.
-fn command_fields(command: Command, count: usize, next: usize) -> [usize; 7]
-    ensures { λ r. ⌜ r ≡ commandFields (command .first) (command .second) (kindNumber (kindFor (command .parameters))) count next ⌝ }
+fn command_fields(taken: TakenCommand) -> [usize; 7]
+    ensures { λ r. ⌜ r ≡ commandFields (taken .command .first) (taken .command .second) (kindNumber (kindFor (taken .command .parameters))) (taken .count) (taken .next) ⌝ }
 {
+    let command = taken.command;
     let first = command.first;
     let second = command.second;
     let parameters = command.parameters;
     let kind = writable::kind_number(writable::kind_of_parameters(parameters));
     [
         2,
-        next,
+        taken.next,
         0,
         first as usize,
         second as usize,
         kind as usize,
-        count,
+        taken.count,
     ]
-}
-
-fn value_of(coordinate: u16) -> i32
-    ensures { λ r. ⌜ r ≡ pos coordinate ⌝ }
-{
-    coordinate as i32
 }
 
 fn four_of(parameters: Parameters) -> [i32; 4]
     ensures { λ r. ⌜ r ≡ fourOf (valuesOf parameters) ⌝ }
 {
-    match parameters {
-        Parameters::Single(a) => [a, 0, 0, 0],
-        Parameters::Double(a, b) => [a, b, 0, 0],
-        Parameters::Triple(a, b, d) => [a, b, d, 0],
-        Parameters::OnePoint(p) => [value_of(p.x), value_of(p.y), 0, 0],
-        Parameters::Corners(p, q) => [value_of(p.x), value_of(p.y), value_of(q.x), value_of(q.y)],
-        Parameters::Scale(r) => [r.mantissa, r.exponent, 0, 0],
-        Parameters::Letters(a, b) => [a, b, 0, 0],
-        Parameters::Text => [0, 0, 0, 0],
-        Parameters::Array => [0, 0, 0, 0],
-        Parameters::NumberedText(a) => [a, 0, 0, 0],
-        Parameters::NumberedArray(a) => [a, 0, 0, 0],
-    }
+    let numbers = parameters::numbers_of(parameters);
+    numbers.values
 }
 
 #[no_mangle]
@@ -98,11 +79,7 @@ pub extern "C" fn ardh_next_item(
     item: &mut [usize; 7],
     values: &mut [i32; 4],
 ) -> u8
-    ensures { λ r. ⌜ r ≡ itemNumber (toldItem (itemAt (keptIn (now (point .entry))) (now (bytes .entry)) start (length (now (list .entry))))) ⌝ }
-    ensures { λ _. ⌜ now (item .exit) ≡ itemFields (toldItem (itemAt (keptIn (now (point .entry))) (now (bytes .entry)) start (length (now (list .entry))))) ⌝ }
-    ensures { λ _. ⌜ now (values .exit) ≡ itemValues (toldItem (itemAt (keptIn (now (point .entry))) (now (bytes .entry)) start (length (now (list .entry))))) ⌝ }
-    ensures { λ _. ⌜ now (point .exit) ≡ twoOf (itemKept (keptIn (now (point .entry))) (toldItem (itemAt (keptIn (now (point .entry))) (now (bytes .entry)) start (length (now (list .entry)))))) ⌝ }
-    ensures { λ _. ⌜ now (list .exit) ≡ afterItem (itemAt (keptIn (now (point .entry))) (now (bytes .entry)) start (length (now (list .entry)))) (now (list .entry)) ⌝ }
+    ensures { λ r. ⌜ NextItem (now (point .entry)) (now (bytes .entry)) start (now (list .entry)) r (now (item .exit)) (now (values .exit)) (now (point .exit)) (now (list .exit)) ⌝ }
 {
     let kept = kept_in(point);
     match stream::read_item(kept, bytes, start, list) {
@@ -112,30 +89,34 @@ pub extern "C" fn ardh_next_item(
             *point = two_of(kept);
             DONE
         }
-        Item::Text(b, next) => {
-            *item = [1, next, 0, b as usize, 0, 0, 0];
+        Item::Text(text) => {
+            *item = [1, text.next, 0, text.byte as usize, 0, 0, 0];
             *values = [0, 0, 0, 0];
             *point = two_of(kept);
             DONE
         }
-        Item::Done(command, count, next, after) => {
+        Item::Command(taken) => {
+            let command = taken.command;
             let parameters = command.parameters;
-            *item = command_fields(command, count, next);
+            let after = taken.kept;
+            *item = command_fields(taken);
             *values = four_of(parameters);
             *point = two_of(after);
             DONE
         }
-        Item::Refused(e, place, next, before) => {
-            *item = [3, next, place, 0, 0, 0, 0];
+        Item::RefusedCommand(refused) => {
+            let refusal = refused.refusal;
+            let before = refused.kept;
+            *item = [3, refused.next, refused.place, 0, 0, 0, 0];
             *values = [0, 0, 0, 0];
             *point = two_of(before);
-            refusals::number(e)
+            refusals::number(refusal)
         }
-        Item::NotRead(e, place) => {
+        Item::Refused(refusal, place) => {
             *item = [4, 0, place, 0, 0, 0, 0];
             *values = [0, 0, 0, 0];
             *point = two_of(kept);
-            refusals::number(e)
+            refusals::number(refusal)
         }
     }
 }
@@ -150,26 +131,26 @@ fn of_kind(kind: Kind, v: &[i32; 4]) -> Parameters
     let c = v[2];
     let d = v[3];
     match kind {
-        Kind::AnInteger => Parameters::Single(a),
-        Kind::TwoIntegers => Parameters::Double(a, b),
-        Kind::ThreeIntegers => Parameters::Triple(a, b, c),
-        Kind::APoint => Parameters::OnePoint(coordinates::point_of(a, b)),
-        Kind::TwoPoints => Parameters::Corners(
-            coordinates::point_of(a, b),
-            coordinates::point_of(c, d),
+        Kind::OneInteger => Parameters::OneInteger(a),
+        Kind::TwoIntegers => Parameters::TwoIntegers(a, b),
+        Kind::ThreeIntegers => Parameters::ThreeIntegers(a, b, c),
+        Kind::OnePoint => Parameters::OnePoint(coordinates::point_given(a, b)),
+        Kind::TwoPoints => Parameters::TwoPoints(
+            coordinates::point_given(a, b),
+            coordinates::point_given(c, d),
         ),
         Kind::AReal => {
             let real = Real {
                 mantissa: a,
                 exponent: b,
             };
-            Parameters::Scale(real)
+            Parameters::AReal(real)
         }
-        Kind::AString => Parameters::Text,
-        Kind::AnArray => Parameters::Array,
-        Kind::IntegerThenArray => Parameters::NumberedArray(a),
-        Kind::IntegerThenString => Parameters::NumberedText(a),
-        Kind::TwoCharacters => Parameters::Letters(a, b),
+        Kind::AString => Parameters::AString,
+        Kind::AnArray => Parameters::AnArray,
+        Kind::IntegerThenArray => Parameters::IntegerThenArray(a),
+        Kind::IntegerThenString => Parameters::IntegerThenString(a),
+        Kind::TwoCharacters => Parameters::TwoCharacters(a, b),
     }
 }
 
@@ -183,9 +164,9 @@ fn kept_behind(kept: Remembered, kind: Kind, v: &[i32; 4]) -> Remembered
     let c = v[2];
     let d = v[3];
     match kind {
-        Kind::APoint => memory::with_point(kept, coordinates::point_of(a, b)),
-        Kind::TwoPoints => memory::with_point(kept, coordinates::point_of(c, d)),
-        Kind::AnInteger => kept,
+        Kind::OnePoint => memory::with_point(kept, coordinates::point_given(a, b)),
+        Kind::TwoPoints => memory::with_point(kept, coordinates::point_given(c, d)),
+        Kind::OneInteger => kept,
         Kind::TwoIntegers => kept,
         Kind::ThreeIntegers => kept,
         Kind::AReal => kept,
@@ -212,17 +193,15 @@ fn write_known(
     out: &mut [u8],
 ) -> Sent
     requires { ⌜ behind ≡ afterValues kept (valuesOf (command .parameters)) ⌝ }
-    ensures { λ r. ⌜ writtenOf (r .answer) ≡ writeFitting kept command (now (list .entry)) (length (now (out .entry))) ⌝ }
-    ensures { λ r. ⌜ r .kept ≡ keptAfter kept command (writeFitting kept command (now (list .entry)) (length (now (out .entry)))) ⌝ }
-    ensures { λ r. ⌜ now (out .exit) ≡ afterWrite (writeFitting kept command (now (list .entry)) (length (now (out .entry)))) (spellCommand kept command (now (list .entry))) (now (out .entry)) 0 ⌝ }
+    ensures { λ r. ⌜ Writes kept command (now (list .entry)) (now (out .entry)) (writeFitting kept command (now (list .entry)) (length (now (out .entry)))) r (now (out .exit)) ⌝ }
 {
     match writing::write_fitting(kept, command, list, out) {
         Written::Next(n) => Sent {
             answer: Written::Next(n),
             kept: behind,
         },
-        Written::NotWritten(e) => Sent {
-            answer: Written::NotWritten(e),
+        Written::Refused(e) => Sent {
+            answer: Written::Refused(e),
             kept: kept,
         },
     }
@@ -237,9 +216,7 @@ fn write_given(
     list: &[i32],
     out: &mut [u8],
 ) -> Sent
-    ensures { λ r. ⌜ writtenOf (r .answer) ≡ writeCommand kept (commandGiven first second (now (v .entry))) (now (list .entry)) (length (now (out .entry))) ⌝ }
-    ensures { λ r. ⌜ r .kept ≡ keptAfter kept (commandGiven first second (now (v .entry))) (writeCommand kept (commandGiven first second (now (v .entry))) (now (list .entry)) (length (now (out .entry)))) ⌝ }
-    ensures { λ r. ⌜ now (out .exit) ≡ afterWrite (writeCommand kept (commandGiven first second (now (v .entry))) (now (list .entry)) (length (now (out .entry)))) (spellCommand kept (commandGiven first second (now (v .entry))) (now (list .entry))) (now (out .entry)) 0 ⌝ }
+    ensures { λ r. ⌜ Writes kept (commandGiven first second (now (v .entry))) (now (list .entry)) (now (out .entry)) (writeCommand kept (commandGiven first second (now (v .entry))) (now (list .entry)) (length (now (out .entry)))) r (now (out .exit)) ⌝ }
 {
     match table::kind_of(first, second) {
         Found::Is(kind) => {
@@ -253,7 +230,7 @@ fn write_given(
             write_known(kept, command, behind, list, out)
         }
         Found::NoKind => Sent {
-            answer: Written::NotWritten(Refusal::NotValid),
+            answer: Written::Refused(Refusal::NotValid),
             kept: kept,
         },
     }
@@ -269,10 +246,7 @@ pub extern "C" fn ardh_write_command(
     out: &mut [u8],
     written: &mut usize,
 ) -> u8
-    ensures { λ r. ⌜ r ≡ number (writeCommand (keptIn (now (point .entry))) (commandGiven first second (now (values .entry))) (now (list .entry)) (length (now (out .entry)))) ⌝ }
-    ensures { λ _. ⌜ now (written .exit) ≡ valueOr 0 (λ (n : ℕ). n) (writeCommand (keptIn (now (point .entry))) (commandGiven first second (now (values .entry))) (now (list .entry)) (length (now (out .entry)))) ⌝ }
-    ensures { λ _. ⌜ now (point .exit) ≡ twoOf (keptAfter (keptIn (now (point .entry))) (commandGiven first second (now (values .entry))) (writeCommand (keptIn (now (point .entry))) (commandGiven first second (now (values .entry))) (now (list .entry)) (length (now (out .entry))))) ⌝ }
-    ensures { λ _. ⌜ now (out .exit) ≡ afterWrite (writeCommand (keptIn (now (point .entry))) (commandGiven first second (now (values .entry))) (now (list .entry)) (length (now (out .entry)))) (spellCommand (keptIn (now (point .entry))) (commandGiven first second (now (values .entry))) (now (list .entry))) (now (out .entry)) 0 ⌝ }
+    ensures { λ r. ⌜ WrittenCommand (now (point .entry)) (commandGiven first second (now (values .entry))) (now (list .entry)) (now (out .entry)) r (now (written .exit)) (now (point .exit)) (now (out .exit)) ⌝ }
 {
     let kept = kept_in(point);
     let sent = write_given(kept, first, second, values, list, out);
@@ -284,7 +258,7 @@ pub extern "C" fn ardh_write_command(
             *written = n;
             DONE
         }
-        Written::NotWritten(e) => {
+        Written::Refused(e) => {
             *written = 0;
             refusals::number(e)
         }

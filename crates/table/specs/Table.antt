@@ -6,35 +6,35 @@ use mathlib.Core.List.{List, [], _∷_}
 use lib.Dec.{eqb}
 use Rattle.refusals.specs.Answers.{pick}
 use Rattle.table.specs.declared.Kind.{Kind}
-use Rattle.table.specs.declared.Kind.the-variants.{AnInteger, TwoIntegers, ThreeIntegers, APoint, TwoPoints, AReal, AString, AnArray, IntegerThenArray, IntegerThenString, TwoCharacters}
+use Rattle.table.specs.declared.Kind.the-variants.{OneInteger, TwoIntegers, ThreeIntegers, OnePoint, TwoPoints, AReal, AString, AnArray, IntegerThenArray, IntegerThenString, TwoCharacters}
 use Rattle.table.specs.declared.Found.{Found}
 use Rattle.table.specs.declared.Found.the-variants.{Is, NoKind}
 
-pub record Row : Type 0 where
+pub record TableRow : Type 0 where
   pub first : ℕ
   pub second : ℕ
   pub kind : Kind
 
-abbrev pub command : ℕ → ℕ → Kind → Row
+abbrev pub command : ℕ → ℕ → Kind → TableRow
 command a b k = record { first = a; second = b; kind = k }
 
-abbrev pub table : List Row
+abbrev pub table : List TableRow
 table =
     -- "one integer": KA KH KI KX LL LV NL
-    command 75 65 AnInteger
-    ∷ command 75 72 AnInteger
-    ∷ command 75 73 AnInteger
-    ∷ command 75 88 AnInteger
-    ∷ command 76 76 AnInteger
-    ∷ command 76 86 AnInteger
-    ∷ command 78 76 AnInteger
+    command 75 65 OneInteger
+    ∷ command 75 72 OneInteger
+    ∷ command 75 73 OneInteger
+    ∷ command 75 88 OneInteger
+    ∷ command 76 76 OneInteger
+    ∷ command 76 86 OneInteger
+    ∷ command 78 76 OneInteger
     -- "two integers / three": NR / RU
     ∷ command 78 82 TwoIntegers
     ∷ command 82 85 ThreeIntegers
     -- "one point / two points": LF LG RH / RS
-    ∷ command 76 70 APoint
-    ∷ command 76 71 APoint
-    ∷ command 82 72 APoint
+    ∷ command 76 70 OnePoint
+    ∷ command 76 71 OnePoint
+    ∷ command 82 72 OnePoint
     ∷ command 82 83 TwoPoints
     -- "real": MR
     ∷ command 77 82 AReal
@@ -53,7 +53,7 @@ table =
     ∷ []
 
 -- the kind of the first row with these letters
-abbrev pub kindIn : List Row → ℕ → ℕ → Found
+abbrev pub kindIn : List TableRow → ℕ → ℕ → Found
 kindIn [] a b = NoKind
 kindIn (e ∷ es) a b = pick (eqb a (e .first) && eqb b (e .second)) (Is (e .kind)) (kindIn es a b)
 
@@ -61,7 +61,7 @@ unfoldable pub kindOf : ℕ → ℕ → Found
 kindOf a b = kindIn table a b
 
 -- "a first letter that begins no command"
-abbrev pub beginsIn : List Row → ℕ → Bool
+abbrev pub beginsIn : List TableRow → ℕ → Bool
 beginsIn [] a = false
 beginsIn (e ∷ es) a = eqb a (e .first) || beginsIn es a
 

@@ -3,10 +3,10 @@ ghost use mathlib.Core.Path.{_≡_};
 ghost use Rattle.table.specs.Table.{begins, kindOf};
 
 pub enum Kind {
-    AnInteger,
+    OneInteger,
     TwoIntegers,
     ThreeIntegers,
-    APoint,
+    OnePoint,
     TwoPoints,
     AReal,
     AString,
@@ -41,12 +41,12 @@ fn of_k(second: u8) -> Found
     ensures { λ r. ⌜ r ≡ kindOf 75 second ⌝ }
 {
     match second {
-        b'A' => Found::Is(Kind::AnInteger),
+        b'A' => Found::Is(Kind::OneInteger),
         b'D' => Found::Is(Kind::IntegerThenArray),
-        b'H' => Found::Is(Kind::AnInteger),
-        b'I' => Found::Is(Kind::AnInteger),
+        b'H' => Found::Is(Kind::OneInteger),
+        b'I' => Found::Is(Kind::OneInteger),
         b'O' => Found::Is(Kind::IntegerThenArray),
-        b'X' => Found::Is(Kind::AnInteger),
+        b'X' => Found::Is(Kind::OneInteger),
         _ => Found::NoKind,
     }
 }
@@ -55,11 +55,11 @@ fn of_l(second: u8) -> Found
     ensures { λ r. ⌜ r ≡ kindOf 76 second ⌝ }
 {
     match second {
-        b'F' => Found::Is(Kind::APoint),
-        b'G' => Found::Is(Kind::APoint),
-        b'L' => Found::Is(Kind::AnInteger),
+        b'F' => Found::Is(Kind::OnePoint),
+        b'G' => Found::Is(Kind::OnePoint),
+        b'L' => Found::Is(Kind::OneInteger),
         b'T' => Found::Is(Kind::AString),
-        b'V' => Found::Is(Kind::AnInteger),
+        b'V' => Found::Is(Kind::OneInteger),
         _ => Found::NoKind,
     }
 }
@@ -69,7 +69,7 @@ fn of_r(second: u8) -> Found
 {
     match second {
         b'D' => Found::Is(Kind::AnArray),
-        b'H' => Found::Is(Kind::APoint),
+        b'H' => Found::Is(Kind::OnePoint),
         b'L' => Found::Is(Kind::AnArray),
         b'P' => Found::Is(Kind::IntegerThenString),
         b'S' => Found::Is(Kind::TwoPoints),
@@ -82,7 +82,7 @@ fn of_n(second: u8) -> Found
     ensures { λ r. ⌜ r ≡ kindOf 78 second ⌝ }
 {
     match second {
-        b'L' => Found::Is(Kind::AnInteger),
+        b'L' => Found::Is(Kind::OneInteger),
         b'R' => Found::Is(Kind::TwoIntegers),
         _ => Found::NoKind,
     }

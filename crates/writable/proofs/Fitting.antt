@@ -21,9 +21,11 @@ use Rattle.table.specs.Table.{kindOf}
 use Rattle.parameters.specs.declared.Entry.{Entry}
 use Rattle.parameters.specs.declared.Entry.the-variants.{AnInteger, ACharacter}
 use Rattle.parameters.specs.declared.Parameters.{Parameters}
-use Rattle.parameters.specs.declared.Parameters.the-variants.{Single, Double, Triple, OnePoint, Corners, Scale, Letters, Text, Array, NumberedText, NumberedArray}
+use Rattle.parameters.specs.declared.Parameters.the-variants.{OneInteger, TwoIntegers, ThreeIntegers, OnePoint, TwoPoints, AReal, TwoCharacters, AString, AnArray, IntegerThenString, IntegerThenArray}
 use Rattle.parameters.specs.declared.Real.{Real}
-use Rattle.parameters.specs.Shapes.{Tail, counted, valuesOf, tailOf}
+use Rattle.parameters.specs.declared.Tail.{Tail}
+use Rattle.parameters.specs.declared.Tail.the-variants.{ListOf}
+use Rattle.parameters.specs.Shapes.{valuesOf, tailOf}
 use Rattle.commands.specs.declared.Command.{Command}
 use Rattle.writable.specs.Writable.{kindFor, kindNumber, isKind, isEntry, areEntries, isValue, areValues, isTail, fits, isCommand}
 
@@ -52,64 +54,64 @@ two-entries e v w x y a b ea i eb j et = et ∙ rw (ea, eb, i, j)
 -- ---- values
 
 module _ (ps : Parameters) {t : Bool} where
-  pub one-fits : (x : ℤ) {v : ℤ} → ps ≡ Single v → t ≡ isEntry AnInteger x → x ≡ v → t ≡ areValues (valuesOf ps)
+  pub one-integer-fits : (x : ℤ) {v : ℤ} → ps ≡ OneInteger v → t ≡ isEntry AnInteger x → x ≡ v → t ≡ areValues (valuesOf ps)
   unfolding every
-  one-fits x {v} g j i = j ∙ rw (g, i) (sym (and-true (isInteger v)))
+  one-integer-fits x {v} g j i = j ∙ rw (g, i) (sym (and-true (isInteger v)))
 
-  pub text-number-fits : (x : ℤ) {v : ℤ} → ps ≡ NumberedText v → t ≡ isEntry AnInteger x → x ≡ v → t ≡ areValues (valuesOf ps)
+  pub integer-then-string-fits : (x : ℤ) {v : ℤ} → ps ≡ IntegerThenString v → t ≡ isEntry AnInteger x → x ≡ v → t ≡ areValues (valuesOf ps)
   unfolding every
-  text-number-fits x {v} g j i = j ∙ rw (g, i) (sym (and-true (isInteger v)))
+  integer-then-string-fits x {v} g j i = j ∙ rw (g, i) (sym (and-true (isInteger v)))
 
-  pub array-number-fits : (x : ℤ) {v : ℤ} → ps ≡ NumberedArray v → t ≡ isEntry AnInteger x → x ≡ v → t ≡ areValues (valuesOf ps)
+  pub integer-then-array-fits : (x : ℤ) {v : ℤ} → ps ≡ IntegerThenArray v → t ≡ isEntry AnInteger x → x ≡ v → t ≡ areValues (valuesOf ps)
   unfolding every
-  array-number-fits x {v} g j i = j ∙ rw (g, i) (sym (and-true (isInteger v)))
+  integer-then-array-fits x {v} g j i = j ∙ rw (g, i) (sym (and-true (isInteger v)))
 
-  pub double-fits : (x y : ℤ) {v w : ℤ} → ps ≡ Double v w → t ≡ isEntry AnInteger x && isEntry AnInteger y → x ≡ v → y ≡ w → t ≡ areValues (valuesOf ps)
+  pub two-integers-fit : (x y : ℤ) {v w : ℤ} → ps ≡ TwoIntegers v w → t ≡ isEntry AnInteger x && isEntry AnInteger y → x ≡ v → y ≡ w → t ≡ areValues (valuesOf ps)
   unfolding every
-  double-fits x y {v} {w} g j i k = j ∙ rw (g, i, k, and-true (isInteger w))
+  two-integers-fit x y {v} {w} g j i k = j ∙ rw (g, i, k, and-true (isInteger w))
 
-  pub letters-fit : (x y : ℤ) {v w : ℤ} → ps ≡ Letters v w → t ≡ isEntry ACharacter x && isEntry ACharacter y → x ≡ v → y ≡ w → t ≡ areValues (valuesOf ps)
+  pub two-characters-fit : (x y : ℤ) {v w : ℤ} → ps ≡ TwoCharacters v w → t ≡ isEntry ACharacter x && isEntry ACharacter y → x ≡ v → y ≡ w → t ≡ areValues (valuesOf ps)
   unfolding every
-  letters-fit x y {v} {w} g j i k = j ∙ rw (g, i, k, and-true (isCharacter w))
+  two-characters-fit x y {v} {w} g j i k = j ∙ rw (g, i, k, and-true (isCharacter w))
 
-  pub scale-fits : (x y : ℤ) {r : Real} → ps ≡ Scale r → t ≡ isEntry AnInteger x && isEntry AnInteger y → x ≡ r .mantissa → y ≡ r .exponent → t ≡ areValues (valuesOf ps)
+  pub real-fits : (x y : ℤ) {r : Real} → ps ≡ AReal r → t ≡ isEntry AnInteger x && isEntry AnInteger y → x ≡ r .mantissa → y ≡ r .exponent → t ≡ areValues (valuesOf ps)
   unfolding every
-  scale-fits x y {r} g j i k = j ∙ rw (g, i, k, and-true (isInteger (r .mantissa) && isInteger (r .exponent)))
+  real-fits x y {r} g j i k = j ∙ rw (g, i, k, and-true (isInteger (r .mantissa) && isInteger (r .exponent)))
 
-  pub triple-fits : (x y z : ℤ) (a b : Bool) {u v w : ℤ} → ps ≡ Triple u v w → a ≡ isEntry AnInteger x && isEntry AnInteger y → b ≡ isEntry AnInteger z → t ≡ a && b → x ≡ u → y ≡ v → z ≡ w → t ≡ areValues (valuesOf ps)
+  pub three-integers-fit : (x y z : ℤ) (a b : Bool) {u v w : ℤ} → ps ≡ ThreeIntegers u v w → a ≡ isEntry AnInteger x && isEntry AnInteger y → b ≡ isEntry AnInteger z → t ≡ a && b → x ≡ u → y ≡ v → z ≡ w → t ≡ areValues (valuesOf ps)
   unfolding every
-  triple-fits x y z a b {u} {v} {w} g ja jb jt i k l =
+  three-integers-fit x y z a b {u} {v} {w} g ja jb jt i k l =
       jt ∙ rw (ja, jb, g, i, k, l, and-true (isInteger w)) (and-assoc (isInteger u) (isInteger v) (isInteger w))
 
-  pub point-fits : {p : Point} → ps ≡ OnePoint p → t ≡ inside p → t ≡ areValues (valuesOf ps)
+  pub one-point-fits : {p : Point} → ps ≡ OnePoint p → t ≡ inside p → t ≡ areValues (valuesOf ps)
   unfolding every
-  point-fits {p} g j = j ∙ rw g (sym (and-true (inside p)))
+  one-point-fits {p} g j = j ∙ rw g (sym (and-true (inside p)))
 
-  pub corners-fit : (a b : Bool) {p q : Point} → ps ≡ Corners p q → a ≡ inside p → b ≡ inside q → t ≡ a && b → t ≡ areValues (valuesOf ps)
+  pub two-points-fit : (a b : Bool) {p q : Point} → ps ≡ TwoPoints p q → a ≡ inside p → b ≡ inside q → t ≡ a && b → t ≡ areValues (valuesOf ps)
   unfolding every
-  corners-fit a b {p} {q} g ja jb jt = jt ∙ rw (ja, jb, g, and-true (inside q))
+  two-points-fit a b {p} {q} g ja jb jt = jt ∙ rw (ja, jb, g, and-true (inside q))
 
-pub text-fits : (ps : Parameters) → ps ≡ Text → true ≡ areValues (valuesOf ps)
+pub string-fits : (ps : Parameters) → ps ≡ AString → true ≡ areValues (valuesOf ps)
 unfolding every
-text-fits ps g = rw g
+string-fits ps g = rw g
 
-pub array-fits : (ps : Parameters) → ps ≡ Array → true ≡ areValues (valuesOf ps)
+pub array-fits : (ps : Parameters) → ps ≡ AnArray → true ≡ areValues (valuesOf ps)
 unfolding every
 array-fits ps g = rw g
 
 -- ---- lists
 
 module _ (e : Entry) (es : List ℤ) where
-  pub too-many : 256 < length es → false ≡ isTail (counted e) es
+  pub too-many : 256 < length es → false ≡ isTail (ListOf e) es
   unfolding isTail
   too-many h = rw (lt-leb (length es) 256 h)
 
-  pub few-enough : {t : Bool} → length es ≤ 256 → t ≡ areEntries e es → t ≡ isTail (counted e) es
+  pub few-enough : {t : Bool} → length es ≤ 256 → t ≡ areEntries e es → t ≡ isTail (ListOf e) es
   unfolding isTail
   few-enough h j = j ∙ rw (le-leb (length es) 256 h)
 
-pub tail-of : (ps : Parameters) (es : List ℤ) {q : Parameters} {t : Bool} → ps ≡ q → t ≡ isTail (tailOf q) es → t ≡ isTail (tailOf ps) es
-tail-of ps es g j = rw g j
+pub tail-of : (ps : Parameters) (es : List ℤ) {u q : Tail} {t : Bool} → u ≡ tailOf ps → u ≡ q → t ≡ isTail q es → t ≡ isTail (tailOf ps) es
+tail-of ps es e g j = rw (← e, g) j
 
 -- ---- the whole command
 

@@ -20,29 +20,31 @@ use Rattle.table.specs.Table.{kindOf}
 use Rattle.parameters.specs.declared.Entry.{Entry}
 use Rattle.parameters.specs.declared.Entry.the-variants.{AnInteger, ACharacter}
 use Rattle.parameters.specs.declared.Parameters.{Parameters}
-use Rattle.parameters.specs.declared.Parameters.the-variants.{Single, Double, Triple, OnePoint, Corners, Scale, Letters, Text, Array, NumberedText, NumberedArray}
-use Rattle.parameters.specs.Shapes.{Tail, none, counted, Value, number, scaled, place, valuesOf, tailOf}
+use Rattle.parameters.specs.declared.Parameters.the-variants.{OneInteger, TwoIntegers, ThreeIntegers, OnePoint, TwoPoints, AReal, TwoCharacters, AString, AnArray, IntegerThenString, IntegerThenArray}
+use Rattle.parameters.specs.declared.Tail.{Tail}
+use Rattle.parameters.specs.declared.Tail.the-variants.{NoList, ListOf}
+use Rattle.parameters.specs.Shapes.{Value, number, scaled, place, valuesOf, tailOf}
 use Rattle.commands.specs.declared.Command.{Command}
 
 abbrev pub kindFor : Parameters → Kind
-kindFor (Single a) = K.AnInteger
-kindFor (Double a b) = K.TwoIntegers
-kindFor (Triple a b c) = K.ThreeIntegers
-kindFor (OnePoint p) = K.APoint
-kindFor (Corners p q) = K.TwoPoints
-kindFor (Scale r) = K.AReal
-kindFor Text = K.AString
-kindFor Array = K.AnArray
-kindFor (NumberedArray a) = K.IntegerThenArray
-kindFor (NumberedText a) = K.IntegerThenString
-kindFor (Letters a b) = K.TwoCharacters
+kindFor (OneInteger a) = K.OneInteger
+kindFor (TwoIntegers a b) = K.TwoIntegers
+kindFor (ThreeIntegers a b c) = K.ThreeIntegers
+kindFor (OnePoint p) = K.OnePoint
+kindFor (TwoPoints p q) = K.TwoPoints
+kindFor (AReal r) = K.AReal
+kindFor AString = K.AString
+kindFor AnArray = K.AnArray
+kindFor (IntegerThenArray a) = K.IntegerThenArray
+kindFor (IntegerThenString a) = K.IntegerThenString
+kindFor (TwoCharacters a b) = K.TwoCharacters
 
 -- kinds are told apart by a number
 abbrev pub kindNumber : Kind → ℕ
-kindNumber K.AnInteger = 1
+kindNumber K.OneInteger = 1
 kindNumber K.TwoIntegers = 2
 kindNumber K.ThreeIntegers = 3
-kindNumber K.APoint = 4
+kindNumber K.OnePoint = 4
 kindNumber K.TwoPoints = 5
 kindNumber K.AReal = 6
 kindNumber K.AString = 7
@@ -76,8 +78,8 @@ areValues vs = every isValue vs
 
 -- "more than 256 entries"
 unfoldable pub isTail : Tail → List ℤ → Bool
-isTail none es = true
-isTail (counted e) es = leb (length es) mostEntries && areEntries e es
+isTail NoList es = true
+isTail (ListOf e) es = leb (length es) mostEntries && areEntries e es
 
 -- the remembered point, the values and the list
 unfoldable pub fits : Remembered → Parameters → List ℤ → Bool

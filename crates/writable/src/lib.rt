@@ -1,12 +1,13 @@
 // What may be written: letters and parameters that belong together, values within their ranges, a list of at most 256.
 ghost use mathlib.Core.Path.{_≡_};
 ghost use mathlib.Core.Bool.{_&&_};
-ghost use Rattle.parameters.specs.Shapes.{counted, valuesOf, tailOf};
+ghost use Rattle.parameters.specs.Shapes.{valuesOf, tailOf};
 ghost use Rattle.writable.specs.Writable.{kindFor, kindNumber, isKind, isEntry, areEntries, areValues, isTail, fits, isCommand};
 use commands::Command;
 use memory::Remembered;
 use parameters::Entry;
 use parameters::Parameters;
+use parameters::Tail;
 use table::Found;
 use table::Kind;
 
@@ -17,10 +18,10 @@ pub fn kind_number(kind: Kind) -> u8
     ensures { λ r. ⌜ r ≡ kindNumber kind ⌝ }
 {
     match kind {
-        Kind::AnInteger => 1,
+        Kind::OneInteger => 1,
         Kind::TwoIntegers => 2,
         Kind::ThreeIntegers => 3,
-        Kind::APoint => 4,
+        Kind::OnePoint => 4,
         Kind::TwoPoints => 5,
         Kind::AReal => 6,
         Kind::AString => 7,
@@ -35,17 +36,17 @@ pub fn kind_of_parameters(parameters: Parameters) -> Kind
     ensures { λ r. ⌜ r ≡ kindFor parameters ⌝ }
 {
     match parameters {
-        Parameters::Single(_) => Kind::AnInteger,
-        Parameters::Double(_, _) => Kind::TwoIntegers,
-        Parameters::Triple(_, _, _) => Kind::ThreeIntegers,
-        Parameters::OnePoint(_) => Kind::APoint,
-        Parameters::Corners(_, _) => Kind::TwoPoints,
-        Parameters::Scale(_) => Kind::AReal,
-        Parameters::Text => Kind::AString,
-        Parameters::Array => Kind::AnArray,
-        Parameters::NumberedArray(_) => Kind::IntegerThenArray,
-        Parameters::NumberedText(_) => Kind::IntegerThenString,
-        Parameters::Letters(_, _) => Kind::TwoCharacters,
+        Parameters::OneInteger(_) => Kind::OneInteger,
+        Parameters::TwoIntegers(_, _) => Kind::TwoIntegers,
+        Parameters::ThreeIntegers(_, _, _) => Kind::ThreeIntegers,
+        Parameters::OnePoint(_) => Kind::OnePoint,
+        Parameters::TwoPoints(_, _) => Kind::TwoPoints,
+        Parameters::AReal(_) => Kind::AReal,
+        Parameters::AString => Kind::AString,
+        Parameters::AnArray => Kind::AnArray,
+        Parameters::IntegerThenArray(_) => Kind::IntegerThenArray,
+        Parameters::IntegerThenString(_) => Kind::IntegerThenString,
+        Parameters::TwoCharacters(_, _) => Kind::TwoCharacters,
     }
 }
 
@@ -85,7 +86,7 @@ fn are_entries(entry: Entry, list: &[i32]) -> bool
     good
 }
 
-fn two_fit(entry: Entry, a: i32, b: i32) -> bool
+fn two_entries_fit(entry: Entry, a: i32, b: i32) -> bool
     ensures { λ r. ⌜ r ≡ isEntry entry a && isEntry entry b ⌝ }
 {
     refusals::both(is_entry(entry, a), is_entry(entry, b))
@@ -95,25 +96,25 @@ fn values_fit(parameters: Parameters) -> bool
     ensures { λ r. ⌜ r ≡ areValues (valuesOf parameters) ⌝ }
 {
     match parameters {
-        Parameters::Single(a) => is_entry(Entry::AnInteger, a),
-        Parameters::Double(a, b) => two_fit(Entry::AnInteger, a, b),
-        Parameters::Triple(a, b, d) => refusals::both(
-            two_fit(Entry::AnInteger, a, b),
+        Parameters::OneInteger(a) => is_entry(Entry::AnInteger, a),
+        Parameters::TwoIntegers(a, b) => two_entries_fit(Entry::AnInteger, a, b),
+        Parameters::ThreeIntegers(a, b, d) => refusals::both(
+            two_entries_fit(Entry::AnInteger, a, b),
             is_entry(Entry::AnInteger, d),
         ),
         Parameters::OnePoint(p) => memory::is_inside(p),
-        Parameters::Corners(p, q) => refusals::both(memory::is_inside(p), memory::is_inside(q)),
-        Parameters::Scale(r) => two_fit(Entry::AnInteger, r.mantissa, r.exponent),
-        Parameters::Letters(a, b) => two_fit(Entry::ACharacter, a, b),
-        Parameters::Text => true,
-        Parameters::Array => true,
-        Parameters::NumberedText(a) => is_entry(Entry::AnInteger, a),
-        Parameters::NumberedArray(a) => is_entry(Entry::AnInteger, a),
+        Parameters::TwoPoints(p, q) => refusals::both(memory::is_inside(p), memory::is_inside(q)),
+        Parameters::AReal(r) => two_entries_fit(Entry::AnInteger, r.mantissa, r.exponent),
+        Parameters::TwoCharacters(a, b) => two_entries_fit(Entry::ACharacter, a, b),
+        Parameters::AString => true,
+        Parameters::AnArray => true,
+        Parameters::IntegerThenString(a) => is_entry(Entry::AnInteger, a),
+        Parameters::IntegerThenArray(a) => is_entry(Entry::AnInteger, a),
     }
 }
 
 fn list_fits(entry: Entry, list: &[i32]) -> bool
-    ensures { λ r. ⌜ r ≡ isTail (counted entry) (now (list .entry)) ⌝ }
+    ensures { λ r. ⌜ r ≡ isTail (Tail.ListOf entry) (now (list .entry)) ⌝ }
 {
     if list.len() > MOST_ENTRIES {
         return false;
@@ -124,18 +125,9 @@ fn list_fits(entry: Entry, list: &[i32]) -> bool
 fn tail_fits(parameters: Parameters, list: &[i32]) -> bool
     ensures { λ r. ⌜ r ≡ isTail (tailOf parameters) (now (list .entry)) ⌝ }
 {
-    match parameters {
-        Parameters::Text => list_fits(Entry::ACharacter, list),
-        Parameters::NumberedText(_) => list_fits(Entry::ACharacter, list),
-        Parameters::Array => list_fits(Entry::AnInteger, list),
-        Parameters::NumberedArray(_) => list_fits(Entry::AnInteger, list),
-        Parameters::Single(_) => true,
-        Parameters::Double(_, _) => true,
-        Parameters::Triple(_, _, _) => true,
-        Parameters::OnePoint(_) => true,
-        Parameters::Corners(_, _) => true,
-        Parameters::Scale(_) => true,
-        Parameters::Letters(_, _) => true,
+    match parameters::tail_of(parameters) {
+        Tail::NoList => true,
+        Tail::ListOf(entry) => list_fits(entry, list),
     }
 }
 

@@ -10,22 +10,27 @@ use lib.Dec.{leb}
 use lib.ListN.{length, getD, take, drop, length-append, length-map, drop-of-length-le}
 use lib.Seq.{sets, sets-eq, take-append-seam, length-take-le, drop-cons, length-sets}
 use lib.IntN.{ℤ, pos, natAbs}
+use Rattle.memory.specs.declared.Point.{Point}
 use Rattle.memory.specs.declared.Remembered.{Remembered}
-use Rattle.memory.specs.Memory.{inside}
+use Rattle.memory.specs.Memory.{inside, remember}
 use Rattle.refusals.specs.Answers.{Answer}
 use Rattle.refusals.proofs.Cases.{and-left, and-right}
 use Rattle.refusals.proofs.Many.{sets-append, every-split}
 use Rattle.wire.specs.Sending.{sent, isPlain, poured, writtenOf, roomFor, writeAt, afterWrite}
 use Rattle.wire.specs.declared.Written.the-variants.{Next}
 use Rattle.wire.proofs.Laying.{sent-plain}
-use Rattle.characters.specs.Characters.{bytesOf, lowBytes}
+use Rattle.characters.specs.Characters.{asBytes, lowBytes}
 use Rattle.characters.proofs.Entries.{all-bytes}
 use Rattle.numbers.specs.Integers.{spell}
 use Rattle.numbers.proofs.Shortest.{spell-few}
 use Rattle.parameters.specs.declared.Entry.{Entry}
 use Rattle.parameters.specs.declared.Entry.the-variants.{ACharacter}
 use Rattle.parameters.specs.declared.Parameters.{Parameters}
-use Rattle.parameters.specs.Shapes.{none, counted, valuesOf, tailOf}
+use Rattle.parameters.specs.declared.LastPoint.{LastPoint}
+use Rattle.parameters.specs.declared.LastPoint.the-variants.{NoPoint, Last}
+use Rattle.parameters.specs.declared.Tail.{Tail}
+use Rattle.parameters.specs.declared.Tail.the-variants.{NoList, ListOf}
+use Rattle.parameters.specs.Shapes.{Value, number, scaled, place, valuesOf, tailOf, lastFrom, lastPoint}
 use Rattle.commands.specs.declared.Command.{Command}
 use Rattle.writable.specs.Writable.{isKind, isEntry, areEntries, areValues, isTail, fits, isCommand}
 use Rattle.writing.specs.Writing.{spellEntry, spellEntries, spellValues, afterValues, spellTail, spellParameters, spellCommand, Poured}
@@ -96,11 +101,11 @@ module _ (e : Entry) (kept : Remembered) (list : List ℤ) (out₀ out : List �
 
 -- ---- characters that are sent as themselves
 
-characters-spelled : (kept : Remembered) (list : List ℤ) → isPlain kept ≡ true → bytesOf list ≡ spellEntries ACharacter kept list
+characters-spelled : (kept : Remembered) (list : List ℤ) → isPlain kept ≡ true → asBytes list ≡ spellEntries ACharacter kept list
 unfolding spellEntries spellEntry
 characters-spelled kept [] p = refl
 characters-spelled kept (v ∷ list) p =
-    ap (λ (w : List ℕ). w ++ bytesOf list) (sym (sent-plain kept (natAbs v ∷ []) p))
+    ap (λ (w : List ℕ). w ++ asBytes list) (sym (sent-plain kept (natAbs v ∷ []) p))
     ∙ ap (λ (w : List ℕ). sent kept (natAbs v ∷ []) ++ w) (characters-spelled kept list p)
 
 pub characters-laid : (kept : Remembered) (list : List ℤ) (l o : List ℕ) (at : ℕ) {t : Bool} → t ≡ isPlain kept → t ≡ true → areEntries ACharacter list ≡ true → length list ≤ 256 → o ≡ sets l at (lowBytes list) → Poured (spellEntries ACharacter kept list) 768 l o at (length list)
@@ -117,7 +122,7 @@ all-poured e kept list l o at r g f = rw g f
 
 -- ---- a counted list
 
-module _ (e : Entry) (kept : Remembered) (list : List ℤ) (h : isTail (counted e) list ≡ true) where
+module _ (e : Entry) (kept : Remembered) (list : List ℤ) (h : isTail (ListOf e) list ≡ true) where
   few-entries : leb (length list) 256 ≡ true
   unfolding isTail
   few-entries = and-left (leb (length list) 256) (areEntries e list) h
@@ -140,7 +145,7 @@ module _ (e : Entry) (kept : Remembered) (list : List ℤ) (h : isTail (counted 
   pub count-few : {n : ℕ} → n ≡ length (poured (leb (length list) 256) (sent kept (spell (pos (length list))))) → n ≤ 3
   count-few e = rw e count-long
 
-  pub list-poured : (l m o : List ℕ) (at n r : ℕ) → n ≡ length (poured (leb (length list) 256) (sent kept (spell (pos (length list))))) → m ≡ sets l at (poured (leb (length list) 256) (sent kept (spell (pos (length list))))) → Poured (spellEntries e kept list) 768 m o (at + n) r → Poured (spellTail kept (counted e) list) 771 l o at (n + r)
+  pub list-poured : (l m o : List ℕ) (at n r : ℕ) → n ≡ length (poured (leb (length list) 256) (sent kept (spell (pos (length list))))) → m ≡ sets l at (poured (leb (length list) 256) (sent kept (spell (pos (length list))))) → Poured (spellEntries e kept list) 768 m o (at + n) r → Poured (spellTail kept (ListOf e) list) 771 l o at (n + r)
   unfolding spellTail
   list-poured l m o at n r en em f =
       let w = sent kept (spell (pos (length list))) in
@@ -149,20 +154,39 @@ module _ (e : Entry) (kept : Remembered) (list : List ℤ) (h : isTail (counted 
 
 -- ---- the tail of each kind
 
-pub tail-ok : (ps : Parameters) (es : List ℤ) {q : Parameters} {e : Entry} → isTail (tailOf ps) es ≡ true → ps ≡ q → tailOf q ≡ counted e → isTail (counted e) es ≡ true
-tail-ok ps es h g j = rw (g, j) at h
+module _ (ps : Parameters) (es : List ℤ) {u : Tail} (eu : u ≡ tailOf ps) where
+  pub tail-ok : {e : Entry} → isTail (tailOf ps) es ≡ true → u ≡ ListOf e → isTail (ListOf e) es ≡ true
+  tail-ok h g = rw (← eu, g) at h
 
-pub tail-poured : (kept : Remembered) (ps : Parameters) (es : List ℤ) {q : Parameters} (e : Entry) (l o : List ℕ) (at r : ℕ) → ps ≡ q → Poured (spellTail kept (counted e) es) 771 l o at r → tailOf q ≡ counted e → Poured (spellTail kept (tailOf ps) es) 771 l o at r
-tail-poured kept ps es e l o at r g f j = rw (g, j) f
+  pub tail-poured : (kept : Remembered) (e : Entry) (l o : List ℕ) (at r : ℕ) → u ≡ ListOf e → Poured (spellTail kept (ListOf e) es) 771 l o at r → Poured (spellTail kept (tailOf ps) es) 771 l o at r
+  tail-poured kept e l o at r g f = rw (← eu, g) f
 
-pub no-tail : (kept : Remembered) (ps : Parameters) (es : List ℤ) {q : Parameters} (l : List ℕ) (at : ℕ) → ps ≡ q → tailOf q ≡ none → Poured (spellTail kept (tailOf ps) es) 771 l l at 0
-unfolding spellTail
-no-tail kept ps es l at g j = rw (g, j) (record { size = refl; stand = refl; few = omega arith })
+  pub no-tail : (kept : Remembered) (l : List ℕ) (at : ℕ) → u ≡ NoList → Poured (spellTail kept (tailOf ps) es) 771 l l at 0
+  unfolding spellTail
+  no-tail kept l at g = rw (← eu, g) (record { size = refl; stand = refl; few = omega arith })
 
--- ---- what is remembered
+-- ---- what is remembered: the last point
 
-pub after-kind : (kept : Remembered) (ps : Parameters) {q : Parameters} {k : Remembered} → ps ≡ q → k ≡ afterValues kept (valuesOf q) → k ≡ afterValues kept (valuesOf ps)
-after-kind kept ps g j = rw g j
+remembered : Remembered → LastPoint → Remembered
+remembered kept NoPoint = kept
+remembered kept (Last p) = remember kept p
+
+after-from : (kept : Remembered) (b : LastPoint) (vs : List Value) → afterValues (remembered kept b) vs ≡ remembered kept (lastFrom b vs)
+unfolding afterValues remembered
+after-from kept b [] = refl
+after-from kept b (number e v ∷ vs) = after-from kept b vs
+after-from kept b (scaled m x ∷ vs) = after-from kept b vs
+after-from kept NoPoint (place p ∷ vs) = after-from kept (Last p) vs
+after-from kept (Last q) (place p ∷ vs) = after-from kept (Last p) vs
+
+module _ (kept : Remembered) (vs : List Value) {b : LastPoint} (eb : b ≡ lastPoint vs) where
+  pub kept-last : {p : Point} {k : Remembered} → b ≡ Last p → k ≡ remember kept p → k ≡ afterValues kept vs
+  unfolding remembered
+  kept-last g j = sym (after-from kept NoPoint vs ∙ rw (← eb, g, j))
+
+  pub kept-before : b ≡ NoPoint → kept ≡ afterValues kept vs
+  unfolding remembered
+  kept-before g = sym (after-from kept NoPoint vs ∙ rw (← eb, g))
 
 -- ---- the whole command
 

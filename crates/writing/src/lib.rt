@@ -7,14 +7,16 @@ ghost use lib.ListN.{length};
 ghost use Rattle.memory.specs.Memory.{inside, remember};
 ghost use Rattle.wire.specs.Sending.{sent, writtenOf, writeAt, afterWrite};
 ghost use Rattle.points.specs.Writing.{spellPoint};
-ghost use Rattle.parameters.specs.Shapes.{counted, valuesOf, tailOf};
+ghost use Rattle.parameters.specs.Shapes.{valuesOf, tailOf};
 ghost use Rattle.writable.specs.Writable.{isEntry, areEntries, areValues, isTail, fits};
 ghost use Rattle.writing.specs.Writing.{spellEntry, spellEntries, spellValues, afterValues, spellTail, spellCommand, writeFitting, writeCommand, Poured};
 use commands::Command;
 use memory::Point;
 use memory::Remembered;
 use parameters::Entry;
+use parameters::LastPoint;
 use parameters::Parameters;
+use parameters::Tail;
 use refusals::Refusal;
 use wire::Written;
 
@@ -34,7 +36,14 @@ fn pour_entry(kept: Remembered, entry: Entry, v: i32, out: &mut [u8], at: usize)
     }
 }
 
-fn pour_pair(kept: Remembered, entry: Entry, a: i32, b: i32, out: &mut [u8], at: usize) -> usize
+fn pour_two_entries(
+    kept: Remembered,
+    entry: Entry,
+    a: i32,
+    b: i32,
+    out: &mut [u8],
+    at: usize,
+) -> usize
     requires { ⌜ ((isEntry entry a ≡ true) × (isEntry entry b ≡ true)) × (at ≤ 64) ⌝ }
     ensures { λ r. ⌜ Poured (spellEntry entry kept a ++ spellEntry entry kept b) 6 (now (out .entry)) (now (out .exit)) at r ⌝ }
 {
@@ -44,30 +53,30 @@ fn pour_pair(kept: Remembered, entry: Entry, a: i32, b: i32, out: &mut [u8], at:
     n + m
 }
 
-fn pour_triple(kept: Remembered, a: i32, b: i32, d: i32, out: &mut [u8], at: usize) -> usize
+fn pour_three_integers(kept: Remembered, a: i32, b: i32, d: i32, out: &mut [u8], at: usize) -> usize
     requires { ⌜ ((isEntry Entry.AnInteger a ≡ true) × ((isEntry Entry.AnInteger b ≡ true) × (isEntry Entry.AnInteger d ≡ true))) × (at ≤ 48) ⌝ }
     ensures { λ r. ⌜ Poured (spellEntry Entry.AnInteger kept a ++ spellEntry Entry.AnInteger kept b ++ spellEntry Entry.AnInteger kept d) 10 (now (out .entry)) (now (out .exit)) at r ⌝ }
 {
-    let n = pour_pair(kept, Entry::AnInteger, a, b, out, at);
+    let n = pour_two_entries(kept, Entry::AnInteger, a, b, out, at);
     let next = at + n;
     let m = pour_entry(kept, Entry::AnInteger, d, out, next);
     n + m
 }
 
-fn pour_place(kept: Remembered, p: Point, out: &mut [u8], at: usize) -> usize
+fn pour_one_point(kept: Remembered, p: Point, out: &mut [u8], at: usize) -> usize
     requires { ⌜ (inside (kept .point) ≡ true) × (inside p ≡ true) ⌝ }
     ensures { λ r. ⌜ Poured (sent kept (spellPoint (kept .point) p)) 5 (now (out .entry)) (now (out .exit)) at r ⌝ }
 {
     points::pour_point(kept, p, out, at)
 }
 
-fn pour_corners(kept: Remembered, p: Point, q: Point, out: &mut [u8], at: usize) -> usize
+fn pour_two_points(kept: Remembered, p: Point, q: Point, out: &mut [u8], at: usize) -> usize
     requires { ⌜ ((inside (kept .point) ≡ true) × ((inside p ≡ true) × (inside q ≡ true))) × (at ≤ 48) ⌝ }
     ensures { λ r. ⌜ Poured (sent kept (spellPoint (kept .point) p) ++ sent (remember kept p) (spellPoint p q)) 10 (now (out .entry)) (now (out .exit)) at r ⌝ }
 {
-    let n = pour_place(kept, p, out, at);
+    let n = pour_one_point(kept, p, out, at);
     let next = at + n;
-    let m = pour_place(memory::with_point(kept, p), q, out, next);
+    let m = pour_one_point(memory::with_point(kept, p), q, out, next);
     n + m
 }
 
@@ -76,21 +85,21 @@ fn pour_values(kept: Remembered, parameters: Parameters, out: &mut [u8], at: usi
     ensures { λ r. ⌜ Poured (spellValues kept (valuesOf parameters)) 10 (now (out .entry)) (now (out .exit)) at r ⌝ }
 {
     match parameters {
-        Parameters::Single(a) => pour_entry(kept, Entry::AnInteger, a, out, at),
-        Parameters::Double(a, b) => pour_pair(kept, Entry::AnInteger, a, b, out, at),
-        Parameters::Triple(a, b, d) => pour_triple(kept, a, b, d, out, at),
-        Parameters::OnePoint(p) => pour_place(kept, p, out, at),
-        Parameters::Corners(p, q) => pour_corners(kept, p, q, out, at),
-        Parameters::Scale(real) => {
+        Parameters::OneInteger(a) => pour_entry(kept, Entry::AnInteger, a, out, at),
+        Parameters::TwoIntegers(a, b) => pour_two_entries(kept, Entry::AnInteger, a, b, out, at),
+        Parameters::ThreeIntegers(a, b, d) => pour_three_integers(kept, a, b, d, out, at),
+        Parameters::OnePoint(p) => pour_one_point(kept, p, out, at),
+        Parameters::TwoPoints(p, q) => pour_two_points(kept, p, q, out, at),
+        Parameters::AReal(real) => {
             let a = real.mantissa;
             let b = real.exponent;
-            pour_pair(kept, Entry::AnInteger, a, b, out, at)
+            pour_two_entries(kept, Entry::AnInteger, a, b, out, at)
         }
-        Parameters::Letters(a, b) => pour_pair(kept, Entry::ACharacter, a, b, out, at),
-        Parameters::Text => 0,
-        Parameters::Array => 0,
-        Parameters::NumberedText(a) => pour_entry(kept, Entry::AnInteger, a, out, at),
-        Parameters::NumberedArray(a) => pour_entry(kept, Entry::AnInteger, a, out, at),
+        Parameters::TwoCharacters(a, b) => pour_two_entries(kept, Entry::ACharacter, a, b, out, at),
+        Parameters::AString => 0,
+        Parameters::AnArray => 0,
+        Parameters::IntegerThenString(a) => pour_entry(kept, Entry::AnInteger, a, out, at),
+        Parameters::IntegerThenArray(a) => pour_entry(kept, Entry::AnInteger, a, out, at),
     }
 }
 
@@ -116,7 +125,7 @@ fn pour_characters(kept: Remembered, list: &[i32], out: &mut [u8], at: usize) ->
     ensures { λ r. ⌜ Poured (spellEntries Entry.ACharacter kept (now (list .entry))) 768 (now (out .entry)) (now (out .exit)) at r ⌝ }
 {
     if wire::is_plain(kept) {
-        characters::lay(list, out, at);
+        characters::copy(list, out, at);
         return list.len();
     }
     pour_entries(kept, Entry::ACharacter, list, out, at)
@@ -133,8 +142,8 @@ fn pour_all(kept: Remembered, entry: Entry, list: &[i32], out: &mut [u8], at: us
 }
 
 fn pour_list(kept: Remembered, entry: Entry, list: &[i32], out: &mut [u8], at: usize) -> usize
-    requires { ⌜ (isTail (counted entry) (now list) ≡ true) × (at ≤ 58) ⌝ }
-    ensures { λ r. ⌜ Poured (spellTail kept (counted entry) (now (list .entry))) 771 (now (out .entry)) (now (out .exit)) at r ⌝ }
+    requires { ⌜ (isTail (Tail.ListOf entry) (now list) ≡ true) × (at ≤ 58) ⌝ }
+    ensures { λ r. ⌜ Poured (spellTail kept (Tail.ListOf entry) (now (list .entry))) 771 (now (out .entry)) (now (out .exit)) at r ⌝ }
 {
     let n = spelling::pour_count(kept, list.len(), out, at);
     let next = at + n;
@@ -152,18 +161,9 @@ fn pour_tail(
     requires { ⌜ (isTail (tailOf parameters) (now list) ≡ true) × (at ≤ 58) ⌝ }
     ensures { λ r. ⌜ Poured (spellTail kept (tailOf parameters) (now (list .entry))) 771 (now (out .entry)) (now (out .exit)) at r ⌝ }
 {
-    match parameters {
-        Parameters::Text => pour_list(kept, Entry::ACharacter, list, out, at),
-        Parameters::NumberedText(_) => pour_list(kept, Entry::ACharacter, list, out, at),
-        Parameters::Array => pour_list(kept, Entry::AnInteger, list, out, at),
-        Parameters::NumberedArray(_) => pour_list(kept, Entry::AnInteger, list, out, at),
-        Parameters::Single(_) => 0,
-        Parameters::Double(_, _) => 0,
-        Parameters::Triple(_, _, _) => 0,
-        Parameters::OnePoint(_) => 0,
-        Parameters::Corners(_, _) => 0,
-        Parameters::Scale(_) => 0,
-        Parameters::Letters(_, _) => 0,
+    match parameters::tail_of(parameters) {
+        Tail::NoList => 0,
+        Tail::ListOf(entry) => pour_list(kept, entry, list, out, at),
     }
 }
 
@@ -171,18 +171,9 @@ fn pour_tail(
 pub fn remembered_after(kept: Remembered, parameters: Parameters) -> Remembered
     ensures { λ r. ⌜ r ≡ afterValues kept (valuesOf parameters) ⌝ }
 {
-    match parameters {
-        Parameters::OnePoint(p) => memory::with_point(kept, p),
-        Parameters::Corners(_, q) => memory::with_point(kept, q),
-        Parameters::Single(_) => kept,
-        Parameters::Double(_, _) => kept,
-        Parameters::Triple(_, _, _) => kept,
-        Parameters::Scale(_) => kept,
-        Parameters::Letters(_, _) => kept,
-        Parameters::Text => kept,
-        Parameters::Array => kept,
-        Parameters::NumberedText(_) => kept,
-        Parameters::NumberedArray(_) => kept,
+    match parameters::last_point(parameters) {
+        LastPoint::NoPoint => kept,
+        LastPoint::Last(p) => memory::with_point(kept, p),
     }
 }
 
@@ -217,7 +208,7 @@ fn send(kept: Remembered, command: Command, list: &[i32], out: &mut [u8]) -> Wri
     // where there may be too little room, the bytes wait apart until it is known how many they are
     let mut bytes = [0u8; MOST_BYTES];
     let size = pour_command(kept, command, list, &mut bytes);
-    wire::lay(&bytes[..size], out, 0)
+    wire::write_bytes(&bytes[..size], out, 0)
 }
 
 // The command's shortest spelling from the front of `out` on: 8 for what may not be written, then 7.
@@ -227,7 +218,7 @@ pub fn write_command(kept: Remembered, command: Command, list: &[i32], out: &mut
     if writable::is_writable(kept, command, list) {
         return send(kept, command, list, out);
     }
-    Written::NotWritten(Refusal::NotValid)
+    Written::Refused(Refusal::NotValid)
 }
 
 // The same where the letters were found in the table and gave the kind of the parameters: they are sent as they stand.
@@ -238,5 +229,5 @@ pub fn write_fitting(kept: Remembered, command: Command, list: &[i32], out: &mut
     if writable::parameters_fit(kept, parameters, list) {
         return send(kept, command, list, out);
     }
-    Written::NotWritten(Refusal::NotValid)
+    Written::Refused(Refusal::NotValid)
 }

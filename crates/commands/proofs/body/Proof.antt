@@ -9,8 +9,8 @@ add-from c = search needs
 look-at-requires : tie.Need-look-at-requires
 look-at-requires c κs = search needs
 
-enum-known-ps : tie.Need-enum-known-ps
-enum-known-ps c = search needs
+enum-known-taken : tie.Need-enum-known-taken
+enum-known-taken c = search needs
 
 same-length : tie.Need-same-length
 same-length c = search needs
@@ -39,7 +39,7 @@ body-spec =
     (tie.spec
     add-from
     look-at-requires
-    enum-known-ps
+    enum-known-taken
     same-length
     returns
     enum-known-e

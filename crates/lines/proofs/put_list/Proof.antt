@@ -3,8 +3,14 @@ use borrow.Author.Needs.{needs}
 use Rattle.lines.proofs.put_list.Statement.{statement}
 use Rattle.lines.proofs.put_list.Tie as tie
 
-has-list-requires : tie.Need-has-list-requires
-has-list-requires c κs = search needs
+tail-of-requires : tie.Need-tail-of-requires
+tail-of-requires c κs = search needs
+
+enum-told : tie.Need-enum-told
+enum-told c = search needs
+
+enum-told-2 : tie.Need-enum-told-2
+enum-told-2 c = search needs
 
 put-natural-requires : tie.Need-put-natural-requires
 put-natural-requires c κs = search needs
@@ -31,11 +37,13 @@ pub put-list-spec : {M : Type 1} → statement M
 put-list-spec =
     tie.close
     (tie.spec
-    has-list-requires
+    tail-of-requires
+    enum-told
+    enum-told-2
     put-natural-requires
     least-requires
     slice-aggregate-put-numbers
     put-numbers-requires
-    same-length
     returns
+    same-length
     returns-2)

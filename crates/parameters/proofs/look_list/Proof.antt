@@ -9,8 +9,11 @@ run-of-requires c κs = search needs
 enum-known-run : tie.Need-enum-known-run
 enum-known-run c = search needs
 
-list-of-requires : tie.Need-list-of-requires
-list-of-requires c κs = search needs
+only-list-requires : tie.Need-only-list-requires
+only-list-requires c κs = search needs
+
+whole-requires : tie.Need-whole-requires
+whole-requires c κs = search needs
 
 enum-known-e : tie.Need-enum-known-e
 enum-known-e c = search needs
@@ -33,7 +36,8 @@ look-list-spec =
     (tie.spec
     run-of-requires
     enum-known-run
-    list-of-requires
+    only-list-requires
+    whole-requires
     enum-known-e
     same-length
     returns

@@ -6,8 +6,8 @@ use Rattle.parameters.proofs.read_character.Tie as tie
 take-requires : tie.Need-take-requires
 take-requires c κs = search needs
 
-enum-known-b : tie.Need-enum-known-b
-enum-known-b c = search needs
+enum-known-byte : tie.Need-enum-known-byte
+enum-known-byte c = search needs
 
 entry-of-requires : tie.Need-entry-of-requires
 entry-of-requires c κs = search needs
@@ -24,4 +24,4 @@ returns-2 c = search (needs, entries)
 pub read-character-spec : {M : Type 1} → statement M
 read-character-spec =
     tie.close
-    (tie.spec take-requires enum-known-b entry-of-requires enum-known-e returns returns-2)
+    (tie.spec take-requires enum-known-byte entry-of-requires enum-known-e returns returns-2)

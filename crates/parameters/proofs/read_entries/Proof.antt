@@ -16,8 +16,8 @@ loop-holds c = search (needs, readings)
 read-entry-requires : tie.Need-read-entry-requires Inv-loop μ-loop
 read-entry-requires c κs = search needs
 
-enum-known-v : tie.Need-enum-known-v Inv-loop μ-loop
-enum-known-v c = search (needs, readings)
+enum-known-taken : tie.Need-enum-known-taken Inv-loop μ-loop
+enum-known-taken c = search (needs, readings)
 
 mul-v : tie.Need-mul-v Inv-loop μ-loop
 mul-v c = search needs
@@ -51,7 +51,7 @@ read-entries-spec =
     μ-loop
     loop-holds
     read-entry-requires
-    enum-known-v
+    enum-known-taken
     mul-v
     element-set-from-v
     add-i

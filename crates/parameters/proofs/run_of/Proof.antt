@@ -6,8 +6,8 @@ use Rattle.parameters.proofs.run_of.Tie as tie
 read-count-requires : tie.Need-read-count-requires
 read-count-requires c κs = search needs
 
-enum-known-count : tie.Need-enum-known-count
-enum-known-count c = search needs
+enum-known-taken : tie.Need-enum-known-taken
+enum-known-taken c = search needs
 
 read-entries-requires : tie.Need-read-entries-requires
 read-entries-requires c κs = search (needs, runs)
@@ -41,7 +41,7 @@ run-of-spec =
     tie.close
     (tie.spec
     read-count-requires
-    enum-known-count
+    enum-known-taken
     read-entries-requires
     enum-known-n
     hand-over-requires

@@ -12,11 +12,11 @@ read-item-requires c κs = search needs
 enum-told : tie.Need-enum-told
 enum-told c = search needs
 
-enum-known-next : tie.Need-enum-known-next
-enum-known-next c = search needs
+enum-known-text : tie.Need-enum-known-text
+enum-known-text c = search needs
 
-enum-known-command : tie.Need-enum-known-command
-enum-known-command c = search needs
+enum-known-taken : tie.Need-enum-known-taken
+enum-known-taken c = search needs
 
 command-piece-requires : tie.Need-command-piece-requires
 command-piece-requires c κs = search needs
@@ -49,8 +49,8 @@ piece-of-item-spec =
     slice-aggregate-read-item
     read-item-requires
     enum-told
-    enum-known-next
-    enum-known-command
+    enum-known-text
+    enum-known-taken
     command-piece-requires
     enum-told-2
     enum-told-3

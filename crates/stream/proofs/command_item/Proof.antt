@@ -1,4 +1,4 @@
-use Rattle.stream.proofs.Reading.{list-kept, item-done, item-unread, item-refused}
+use Rattle.stream.proofs.Reading.{list-kept, item-whole, item-refused-call, item-refused-command}
 use borrow.Author.Needs.{needs}
 use Rattle.stream.proofs.command_item.Statement.{statement}
 use Rattle.stream.proofs.command_item.Tie as tie
@@ -6,8 +6,8 @@ use Rattle.stream.proofs.command_item.Tie as tie
 read-command-requires : tie.Need-read-command-requires
 read-command-requires c κs = search needs
 
-enum-known-command : tie.Need-enum-known-command
-enum-known-command c = search needs
+enum-known-taken : tie.Need-enum-known-taken
+enum-known-taken c = search needs
 
 enum-known-e : tie.Need-enum-known-e
 enum-known-e c = search needs
@@ -19,7 +19,7 @@ same-length : tie.Need-same-length
 same-length c = search needs
 
 returns : tie.Need-returns
-returns c = search (needs, list-kept, item-unread)
+returns c = search (needs, list-kept, item-refused-call)
 
 next-escape-requires : tie.Need-next-escape-requires
 next-escape-requires c κs = search needs
@@ -28,20 +28,20 @@ same-length-2 : tie.Need-same-length-2
 same-length-2 c = search needs
 
 returns-2 : tie.Need-returns-2
-returns-2 c = search (needs, list-kept, item-done)
+returns-2 c = search (needs, list-kept, item-whole)
 
 same-length-3 : tie.Need-same-length-3
 same-length-3 c = search needs
 
 returns-3 : tie.Need-returns-3
-returns-3 c = search (needs, list-kept, item-refused)
+returns-3 c = search (needs, list-kept, item-refused-command)
 
 pub command-item-spec : {M : Type 1} → statement M
 command-item-spec =
     tie.close
     (tie.spec
     read-command-requires
-    enum-known-command
+    enum-known-taken
     enum-known-e
     number-requires
     same-length

@@ -1,5 +1,4 @@
-use Rattle.wire.proofs.Handing.{written-done, written-next, written-refused, written-none}
-use Rattle.stream_calls.proofs.Writing.{answer-so, point-so, out-so}
+use Rattle.stream_calls.proofs.Writing.{command-written, command-refused}
 use borrow.Author.Needs.{needs}
 use Rattle.stream_calls.proofs.ardh_write_command.Statement.{statement}
 use Rattle.stream_calls.proofs.ardh_write_command.Tie as tie
@@ -26,13 +25,13 @@ same-length : tie.Need-same-length
 same-length c = search needs
 
 returns : tie.Need-returns
-returns c = (search (needs, written-done, answer-so), (search (needs, written-next, answer-so), (search (needs, point-so), search (needs, out-so))))
+returns c = search (needs, command-written)
 
 same-length-2 : tie.Need-same-length-2
 same-length-2 c = search needs
 
 returns-2 : tie.Need-returns-2
-returns-2 c = (search (needs, written-refused, answer-so), (search (needs, written-none, answer-so), (search (needs, point-so), search (needs, out-so))))
+returns-2 c = search (needs, command-refused)
 
 pub ardh-write-command-spec : {M : Type 1} → statement M
 ardh-write-command-spec =

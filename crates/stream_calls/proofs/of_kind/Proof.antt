@@ -1,125 +1,38 @@
-use Rattle.stream_calls.proofs.Writing.{kind-integer, kind-two, kind-three, kind-point, kind-corners, kind-real, kind-string, kind-array, kind-numbered-array, kind-numbered-string, kind-letters}
+use Rattle.stream_calls.proofs.Writing.{kind-one-integer, kind-two, kind-three, kind-one-point, kind-two-points, kind-real, kind-string, kind-array, kind-integer-then-array, kind-integer-then-string, kind-characters}
 use borrow.Author.Needs.{needs}
 use Rattle.stream_calls.proofs.of_kind.Statement.{statement}
 use Rattle.stream_calls.proofs.of_kind.Tie as tie
-
-element-copy-out-a : tie.Need-element-copy-out-a
-element-copy-out-a c = search needs
-
-element-copy-out-b : tie.Need-element-copy-out-b
-element-copy-out-b c = search needs
-
-element-copy-out-c : tie.Need-element-copy-out-c
-element-copy-out-c c = search needs
-
-element-copy-out-d : tie.Need-element-copy-out-d
-element-copy-out-d c = search needs
-
-enum-told : tie.Need-enum-told
-enum-told c = search needs
-
-enum-told-2 : tie.Need-enum-told-2
-enum-told-2 c = search needs
-
-enum-told-3 : tie.Need-enum-told-3
-enum-told-3 c = search needs
-
-enum-told-4 : tie.Need-enum-told-4
-enum-told-4 c = search needs
-
-point-of-requires : tie.Need-point-of-requires
-point-of-requires c κs = search needs
-
-enum-told-5 : tie.Need-enum-told-5
-enum-told-5 c = search needs
-
-point-of-requires-2 : tie.Need-point-of-requires-2
-point-of-requires-2 c κs = search needs
-
-point-of-requires-3 : tie.Need-point-of-requires-3
-point-of-requires-3 c κs = search needs
-
-enum-told-6 : tie.Need-enum-told-6
-enum-told-6 c = search needs
-
-enum-told-7 : tie.Need-enum-told-7
-enum-told-7 c = search needs
-
-enum-told-8 : tie.Need-enum-told-8
-enum-told-8 c = search needs
-
-enum-told-9 : tie.Need-enum-told-9
-enum-told-9 c = search needs
-
-enum-told-10 : tie.Need-enum-told-10
-enum-told-10 c = search needs
-
-enum-told-11 : tie.Need-enum-told-11
-enum-told-11 c = search needs
-
-returns : tie.Need-returns
-returns c = search (needs, kind-integer)
-
-returns-2 : tie.Need-returns-2
-returns-2 c = search (needs, kind-two)
-
-returns-3 : tie.Need-returns-3
-returns-3 c = search (needs, kind-three)
-
-returns-4 : tie.Need-returns-4
-returns-4 c = search (needs, kind-point)
-
-returns-5 : tie.Need-returns-5
-returns-5 c = search (needs, kind-corners)
-
-returns-6 : tie.Need-returns-6
-returns-6 c = search (needs, kind-real)
-
-returns-7 : tie.Need-returns-7
-returns-7 c = search (needs, kind-string)
-
-returns-8 : tie.Need-returns-8
-returns-8 c = search (needs, kind-array)
-
-returns-9 : tie.Need-returns-9
-returns-9 c = search (needs, kind-numbered-array)
-
-returns-10 : tie.Need-returns-10
-returns-10 c = search (needs, kind-numbered-string)
-
-returns-11 : tie.Need-returns-11
-returns-11 c = search (needs, kind-letters)
 
 pub of-kind-spec : {M : Type 1} → statement M
 of-kind-spec =
     tie.close
     (tie.spec
-    element-copy-out-a
-    element-copy-out-b
-    element-copy-out-c
-    element-copy-out-d
-    enum-told
-    enum-told-2
-    enum-told-3
-    enum-told-4
-    point-of-requires
-    enum-told-5
-    point-of-requires-2
-    point-of-requires-3
-    enum-told-6
-    enum-told-7
-    enum-told-8
-    enum-told-9
-    enum-told-10
-    enum-told-11
-    returns
-    returns-2
-    returns-3
-    returns-4
-    returns-5
-    returns-6
-    returns-7
-    returns-8
-    returns-9
-    returns-10
-    returns-11)
+    (λ c. search needs)
+    (λ c. search needs)
+    (λ c. search needs)
+    (λ c. search needs)
+    (λ c. search needs)
+    (λ c. search needs)
+    (λ c. search needs)
+    (λ c. search needs)
+    (λ c κs. search needs)
+    (λ c. search needs)
+    (λ c κs. search needs)
+    (λ c κs. search needs)
+    (λ c. search needs)
+    (λ c. search needs)
+    (λ c. search needs)
+    (λ c. search needs)
+    (λ c. search needs)
+    (λ c. search needs)
+    (λ c. search (needs, kind-one-integer))
+    (λ c. search (needs, kind-two))
+    (λ c. search (needs, kind-three))
+    (λ c. search (needs, kind-one-point))
+    (λ c. search (needs, kind-two-points))
+    (λ c. search (needs, kind-real))
+    (λ c. search (needs, kind-string))
+    (λ c. search (needs, kind-array))
+    (λ c. search (needs, kind-integer-then-array))
+    (λ c. search (needs, kind-integer-then-string))
+    (λ c. search (needs, kind-characters)))

@@ -1,4 +1,4 @@
-use Rattle.stream_calls.proofs.Writing.{known-so, known-kept, known-out, unknown-so, unknown-kept, unknown-out, behind-given}
+use Rattle.stream_calls.proofs.Writing.{known-writes, unknown-writes, behind-given}
 use borrow.Author.Needs.{needs}
 use Rattle.stream_calls.proofs.write_given.Statement.{statement}
 use Rattle.stream_calls.proofs.write_given.Tie as tie
@@ -25,10 +25,10 @@ same-length : tie.Need-same-length
 same-length c = search needs
 
 returns : tie.Need-returns
-returns c = (search (needs, known-so), (search (needs, known-kept), search (needs, known-out)))
+returns c = search (needs, known-writes)
 
 returns-2 : tie.Need-returns-2
-returns-2 c = (search (needs, unknown-so), (search (needs, unknown-kept), search (needs, unknown-out)))
+returns-2 c = search (needs, unknown-writes)
 
 pub write-given-spec : {M : Type 1} → statement M
 write-given-spec =

@@ -1,5 +1,4 @@
-use Rattle.wire.proofs.Handing.{written-out}
-use Rattle.stream_calls.proofs.Writing.{written-same, kept-moved, kept-same}
+use Rattle.stream_calls.proofs.Writing.{writes-moved, writes-same}
 use borrow.Author.Needs.{needs}
 use Rattle.stream_calls.proofs.write_known.Statement.{statement}
 use Rattle.stream_calls.proofs.write_known.Tie as tie
@@ -17,13 +16,13 @@ same-length : tie.Need-same-length
 same-length c = search needs
 
 returns : tie.Need-returns
-returns c = (search (needs, written-same), (search (needs, kept-moved), search (needs, written-out)))
+returns c = search (needs, writes-moved)
 
 same-length-2 : tie.Need-same-length-2
 same-length-2 c = search needs
 
 returns-2 : tie.Need-returns-2
-returns-2 c = (search (needs, written-same), (search (needs, kept-same), search (needs, written-out)))
+returns-2 c = search (needs, writes-same)
 
 pub write-known-spec : {M : Type 1} → statement M
 write-known-spec =

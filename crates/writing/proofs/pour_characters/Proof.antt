@@ -6,8 +6,8 @@ use Rattle.writing.proofs.pour_characters.Tie as tie
 is-plain-requires : tie.Need-is-plain-requires
 is-plain-requires c κs = search needs
 
-lay-requires : tie.Need-lay-requires
-lay-requires c κs = search needs
+copy-requires : tie.Need-copy-requires
+copy-requires c κs = search needs
 
 same-length : tie.Need-same-length
 same-length c = search needs
@@ -29,7 +29,7 @@ pour-characters-spec =
     tie.close
     (tie.spec
     is-plain-requires
-    lay-requires
+    copy-requires
     same-length
     returns
     pour-entries-requires

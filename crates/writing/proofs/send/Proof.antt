@@ -22,11 +22,11 @@ pour-command-requires-2 c κs = search needs
 array-share-prefix-bytes : tie.Need-array-share-prefix-bytes
 array-share-prefix-bytes c = search needs
 
-slice-aggregate-lay : tie.Need-slice-aggregate-lay
-slice-aggregate-lay c = search (needs, front-long)
+slice-aggregate-write-bytes : tie.Need-slice-aggregate-write-bytes
+slice-aggregate-write-bytes c = search (needs, front-long)
 
-lay-requires : tie.Need-lay-requires
-lay-requires c κs = search needs
+write-bytes-requires : tie.Need-write-bytes-requires
+write-bytes-requires c κs = search needs
 
 same-length-2 : tie.Need-same-length-2
 same-length-2 c = search needs
@@ -44,7 +44,7 @@ send-spec =
     slice-aggregate-pour-command
     pour-command-requires-2
     array-share-prefix-bytes
-    slice-aggregate-lay
-    lay-requires
+    slice-aggregate-write-bytes
+    write-bytes-requires
     same-length-2
     returns-2)

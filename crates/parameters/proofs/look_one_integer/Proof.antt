@@ -1,0 +1,27 @@
+use Rattle.parameters.proofs.Looks.{fixeds}
+use borrow.Author.Needs.{needs}
+use Rattle.parameters.proofs.look_one_integer.Statement.{statement}
+use Rattle.parameters.proofs.look_one_integer.Tie as tie
+
+read-integer-requires : tie.Need-read-integer-requires
+read-integer-requires c κs = search needs
+
+enum-known-a : tie.Need-enum-known-a
+enum-known-a c = search needs
+
+without-list-requires : tie.Need-without-list-requires
+without-list-requires c κs = search needs
+
+enum-known-e : tie.Need-enum-known-e
+enum-known-e c = search needs
+
+returns : tie.Need-returns
+returns c = search (needs, fixeds)
+
+returns-2 : tie.Need-returns-2
+returns-2 c = search (needs, fixeds)
+
+pub look-one-integer-spec : {M : Type 1} → statement M
+look-one-integer-spec =
+    tie.close
+    (tie.spec read-integer-requires enum-known-a without-list-requires enum-known-e returns returns-2)
