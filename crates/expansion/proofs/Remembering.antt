@@ -1,4 +1,4 @@
--- What an expansion remembers stays inside, so that each item of a body is read: by `broken-is-trouble` 17 comes for a refused or cut command
+-- What an expansion remembers stays inside, so that each item of a body is read: by `refused-is-a-command` 17 comes for a refused or cut command
 -- and for nothing else.
 use Prim.Native.Nat.{ℕ, zero, suc, _+_}
 use mathlib.Core.Path.{_≡_, refl}
@@ -29,7 +29,7 @@ module _ (call : ℤ → Remembered → ℕ → Stretch) (calls : (number : ℤ)
   piece-inside rest f i kept n Piece.End e j = j
   piece-inside rest f i kept n (Piece.Copied next after) e j = f next after n (copied-inside kept body i j e)
   piece-inside rest f i kept n (Piece.Called number next after) e j = then-inside (call number after n) (rest next) (calls number after n (called-inside kept body i j e)) (f next)
-  piece-inside rest f i kept n Piece.Broken e j = j
+  piece-inside rest f i kept n Piece.Refused e j = j
 
   walked-inside : (k i : ℕ) (kept : Remembered) (n : ℕ) → inside (kept .point) ≡ true → Inside (walked call k body i kept n)
   unfolding walked

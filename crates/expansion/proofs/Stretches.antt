@@ -44,7 +44,7 @@ module _ (call : ℤ → Remembered → ℕ → Stretch) (body : List ℕ) where
   piece-same rest other i kept n (Piece.Called number next after) e f =
       let c = call number after n in
       ap (λ (x : Stretch). pick (eqb (c .number) 0) (front (c .bytes) x) c) (f next (c .kept) (c .entered) (called-onward kept body i e))
-  piece-same rest other i kept n Piece.Broken e f = refl
+  piece-same rest other i kept n Piece.Refused e f = refl
 
   pub fuel-enough : (k l i : ℕ) (kept : Remembered) (n : ℕ) → length body - i < k → length body - i < l → walked call k body i kept n ≡ walked call l body i kept n
   unfolding walked
@@ -85,7 +85,7 @@ module _ (call : ℤ → Remembered → ℕ → Stretch) (small : (number : ℤ)
   piece-small rest i kept n (Piece.Called number next after) e h f =
       let w = called-onward kept body i e in
       small-then (call number after n) (rest next) (length body - i) (length body - next) n (omega (arith, w .0)) (small number after n h) (f next)
-  piece-small rest i kept n Piece.Broken e h f = small-stops 17 (length body - i) n kept h
+  piece-small rest i kept n Piece.Refused e h f = small-stops 17 (length body - i) n kept h
 
   walked-small : (k i : ℕ) (kept : Remembered) (n : ℕ) → n ≤ 1024 → Small (walked call k body i kept n) (length body - i) n
   unfolding walked

@@ -112,7 +112,7 @@ module _ (volatile saved : List ℕ) (d : ℕ) (body : List ℕ) (from : Going) 
       pub walked-end : p ≡ Piece.End → Ran (bodyStretch volatile saved d body (from .kept) (from .entered)) (from .at) out₀ out (Step.On going)
       walked-end e = ends _ (here-is e) (ran-none going out)
 
-      pub walked-broken : p ≡ Piece.Broken → Ran (bodyStretch volatile saved d body (from .kept) (from .entered)) (from .at) out₀ out (Step.Refused BodyRefused)
+      pub walked-broken : p ≡ Piece.Refused → Ran (bodyStretch volatile saved d body (from .kept) (from .entered)) (from .at) out₀ out (Step.Refused BodyRefused)
       walked-broken e = ends _ (here-is e) (ran-stops BodyRefused (going .at) (going .entered) (going .kept) out)
 
       -- what is left behind the piece, with the fuel for it

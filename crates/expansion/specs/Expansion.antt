@@ -53,7 +53,7 @@ abbrev pub onPiece : (ℤ → Remembered → ℕ → Stretch) → (ℕ → Remem
 onPiece call rest body i kept n Piece.End = gives [] n kept
 onPiece call rest body i kept n (Piece.Copied next after) = front (itemBytes i next body) (rest next after n)
 onPiece call rest body i kept n (Piece.Called number next after) = andThen (call number after n) (rest next)
-onPiece call rest body i kept n Piece.Broken = stops 17 n kept
+onPiece call rest body i kept n Piece.Refused = stops 17 n kept
 
 -- "Items are taken in byte order": those of a body from i on, with n macros entered before; call says what a KX gives. There are fewer
 -- than k pieces left.

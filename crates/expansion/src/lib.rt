@@ -57,7 +57,7 @@ fn walk<'a>(
         let at = going.at;
         match pieces::piece_at(going.kept, body, i) {
             Piece::End => return Step::On(going),
-            Piece::Broken => return Step::Refused(Refusal::BodyRefused),
+            Piece::Refused => return Step::Refused(Refusal::BodyRefused),
             Piece::Copied(next, after) => {
                 wire::copy(&body[i..next], out, at);
                 going.at = at + (next - i);

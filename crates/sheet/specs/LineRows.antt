@@ -16,31 +16,31 @@ abbrev item : Item → ℕ → List ℤ → List ℕ → SheetRow
 item i start list line = record { given = lineOf i start list; paper = line }
 
 abbrev command : (first second : ℕ) → Parameters → ℕ → Item
-command a b ps count = I.Done (record { first = a; second = b; parameters = ps }) count 0 freshMemory
+command a b ps count = I.Command (record { command = (record { first = a; second = b; parameters = ps }); count = count; next = 0; kept = freshMemory })
 
 abbrev pub line-examples : List SheetRow
 line-examples =
     -- T 0 65
-    item (I.Text 65 1) 0 [] (84 ∷ 32 ∷ 48 ∷ 32 ∷ 54 ∷ 53 ∷ 10 ∷ [])
+    item (I.Text (record { byte = 65; next = 1 })) 0 [] (84 ∷ 32 ∷ 48 ∷ 32 ∷ 54 ∷ 53 ∷ 10 ∷ [])
     -- C 1 LF 0 100
     ∷ item (command 76 70 (P.OnePoint (record { x = 0; y = 100 })) 0) 1 [] (67 ∷ 32 ∷ 49 ∷ 32 ∷ 76 ∷ 70 ∷ 32 ∷ 48 ∷ 32 ∷ 49 ∷ 48 ∷ 48 ∷ 10 ∷ [])
     -- R 6 2 8
-    ∷ item (I.Refused UnknownCommand 8 9 freshMemory) 6 [] (82 ∷ 32 ∷ 54 ∷ 32 ∷ 50 ∷ 32 ∷ 56 ∷ 10 ∷ [])
+    ∷ item (I.RefusedCommand (record { refusal = UnknownCommand; place = 8; next = 9; kept = freshMemory })) 6 [] (82 ∷ 32 ∷ 54 ∷ 32 ∷ 50 ∷ 32 ∷ 56 ∷ 10 ∷ [])
     -- C 9 KA 0
-    ∷ item (command 75 65 (P.Single (pos 0)) 0) 9 [] (67 ∷ 32 ∷ 57 ∷ 32 ∷ 75 ∷ 65 ∷ 32 ∷ 48 ∷ 10 ∷ [])
+    ∷ item (command 75 65 (P.OneInteger (pos 0)) 0) 9 [] (67 ∷ 32 ∷ 57 ∷ 32 ∷ 75 ∷ 65 ∷ 32 ∷ 48 ∷ 10 ∷ [])
     -- E 13
     ∷ record { given = lastLine false 13; paper = (69 ∷ 32 ∷ 49 ∷ 51 ∷ 10 ∷ []) }
     -- M 4096
     ∷ record { given = lastLine true 4096; paper = (77 ∷ 32 ∷ 52 ∷ 48 ∷ 57 ∷ 54 ∷ 10 ∷ []) }
     -- a string: C 0 LT 2 72 73, of a longer list
-    ∷ item (command 76 84 P.Text 2) 0 (pos 72 ∷ pos 73 ∷ pos 7 ∷ []) (67 ∷ 32 ∷ 48 ∷ 32 ∷ 76 ∷ 84 ∷ 32 ∷ 50 ∷ 32 ∷ 55 ∷ 50 ∷ 32 ∷ 55 ∷ 51 ∷ 10 ∷ [])
+    ∷ item (command 76 84 P.AString 2) 0 (pos 72 ∷ pos 73 ∷ pos 7 ∷ []) (67 ∷ 32 ∷ 48 ∷ 32 ∷ 76 ∷ 84 ∷ 32 ∷ 50 ∷ 32 ∷ 55 ∷ 50 ∷ 32 ∷ 55 ∷ 51 ∷ 10 ∷ [])
     -- an integer and an array: C 0 KD 5 1 -32768
-    ∷ item (command 75 68 (P.NumberedArray (pos 5)) 1) 0 (negsuc 32767 ∷ []) (67 ∷ 32 ∷ 48 ∷ 32 ∷ 75 ∷ 68 ∷ 32 ∷ 53 ∷ 32 ∷ 49 ∷ 32 ∷ 45 ∷ 51 ∷ 50 ∷ 55 ∷ 54 ∷ 56 ∷ 10 ∷ [])
+    ∷ item (command 75 68 (P.IntegerThenArray (pos 5)) 1) 0 (negsuc 32767 ∷ []) (67 ∷ 32 ∷ 48 ∷ 32 ∷ 75 ∷ 68 ∷ 32 ∷ 53 ∷ 32 ∷ 49 ∷ 32 ∷ 45 ∷ 51 ∷ 50 ∷ 55 ∷ 54 ∷ 56 ∷ 10 ∷ [])
     -- a real, the mantissa first: C 0 MR -1 3
-    ∷ item (command 77 82 (P.Scale (record { mantissa = negsuc 0; exponent = pos 3 })) 0) 0 [] (67 ∷ 32 ∷ 48 ∷ 32 ∷ 77 ∷ 82 ∷ 32 ∷ 45 ∷ 49 ∷ 32 ∷ 51 ∷ 10 ∷ [])
+    ∷ item (command 77 82 (P.AReal (record { mantissa = negsuc 0; exponent = pos 3 })) 0) 0 [] (67 ∷ 32 ∷ 48 ∷ 32 ∷ 77 ∷ 82 ∷ 32 ∷ 45 ∷ 49 ∷ 32 ∷ 51 ∷ 10 ∷ [])
     -- an empty array: C 0 RL 0
-    ∷ item (command 82 76 P.Array 0) 0 (pos 72 ∷ []) (67 ∷ 32 ∷ 48 ∷ 32 ∷ 82 ∷ 76 ∷ 32 ∷ 48 ∷ 10 ∷ [])
+    ∷ item (command 82 76 P.AnArray 0) 0 (pos 72 ∷ []) (67 ∷ 32 ∷ 48 ∷ 32 ∷ 82 ∷ 76 ∷ 32 ∷ 48 ∷ 10 ∷ [])
     -- no item, no line
     ∷ item I.Nothing 13 [] []
-    ∷ item (I.NotRead BytesEnd 0) 13 [] []
+    ∷ item (I.Refused BytesEnd 0) 13 [] []
     ∷ []

@@ -34,7 +34,8 @@ use Rattle.defining.specs.Defining.{mayDefine, beforeRoom, defineRefusal, store
 use Rattle.pieces.specs.Pieces.{commandPiece, pieceOf, pieceAt}
 use Rattle.expansion.specs.Expansion.{walked, entering, callStretch, started, expandRefusal, expandTold, expandOut}
 use Rattle.pixel_calls.specs.Fields.{beamIn, fieldsOf}
-use Rattle.stream_calls.specs.Slots.{keptIn, twoOf, itemKept, itemNumber, kindIn, itemFields, fourOf, itemValues}
+use Rattle.parameters.specs.Numbers.{fourOf}
+use Rattle.stream_calls.specs.Slots.{keptIn, twoOf, itemKept, itemNumber, kindSlot, itemFields, itemValues}
 use Rattle.stream_calls.specs.Given.{ofKind, ofFound, commandGiven, keptAfter}
 use Rattle.macro_calls.specs.Slots.{placeFields, countFields}
 use Rattle.sheet.specs.Rows.{Wrong, differs, joined}
@@ -63,6 +64,6 @@ unfolding every number valueOr placeOf endsAfter allAfter byteAt pairAt isItself
     rasterRefusal runRefusal written surfaceAfter drawRaster rasterSurface drawRuns runsSurface after returned ran threeBytes encoded isStoreEntry
     frontEntries wellFormed keep bodyOf mayDefine beforeRoom defineRefusal storeAfter bodyInEither lookRefusal findRefusal lookedUp placed
     hasBody bodyByHeaders lookedByHeaders commandPiece pieceOf pieceAt walked entering callStretch started expandRefusal expandTold expandOut
-    beamIn fieldsOf keptIn twoOf itemKept itemNumber kindIn itemFields fourOf itemValues ofKind ofFound commandGiven keptAfter placeFields
+    beamIn fieldsOf keptIn twoOf itemKept itemNumber kindSlot itemFields fourOf itemValues ofKind ofFound commandGiven keptAfter placeFields
     countFields
 none-as-wrong = refl

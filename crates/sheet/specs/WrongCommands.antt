@@ -17,10 +17,10 @@ use Rattle.parameters.specs.declared.Parameters.the-variants as P
 use Rattle.parameters.specs.Shapes.{shapeOf, valuesOf}
 use Rattle.parameters.specs.Looking.{Parsed, parametersAt, afterLook}
 use Rattle.commands.specs.declared.Command.{Command}
-use Rattle.commands.specs.Reading.{Told, commandAt, told, afterEntries}
+use Rattle.commands.specs.Reading.{ToldCommand, commandAt, told, afterEntries}
 use Rattle.writable.specs.Writable.{kindFor, kindNumber, fits, isCommand}
 use Rattle.writing.specs.Writing.{afterValues, spellCommand, writeFitting, writeCommand}
-use Rattle.stream_calls.specs.Slots.{numbersIn}
+use Rattle.parameters.specs.Numbers.{numbersOf}
 use Rattle.sheet.specs.Rows.{Wrong, but, joined, truth, signsOf, at, point-is, writingOf}
 
 -- ---- table
@@ -50,7 +50,7 @@ wrong-kind-of =
 
 -- where the entries start and how many they are, where reading goes on, the remembered point, and the fixed values; or the refusal and its place
 abbrev parsedIs : Answer Parsed → List ℕ
-parsedIs (done p) = (0 ∷ p .start ∷ p .count ∷ p .next ∷ p .kept .point .x ∷ p .kept .point .y ∷ []) ++ signsOf (numbersIn (p .values))
+parsedIs (done p) = (0 ∷ p .start ∷ p .count ∷ p .next ∷ p .kept .point .x ∷ p .kept .point .y ∷ []) ++ signsOf (numbersOf (p .values))
 parsedIs (refused e p) = (e ∷ p ∷ [])
 
 abbrev looking : Kind → List ℕ → List ℤ → List ℕ → Wrong
@@ -72,8 +72,8 @@ wrong-look-at =
 -- ---- commands
 
 -- the letters, the number of entries, where reading goes on, the remembered point, and the fixed values; or the refusal and its place
-abbrev toldIs : Answer Told → List ℕ
-toldIs (done t) = (0 ∷ t .first ∷ t .second ∷ t .count ∷ t .next ∷ t .kept .point .x ∷ t .kept .point .y ∷ []) ++ signsOf (numbersIn (t .values))
+abbrev toldIs : Answer ToldCommand → List ℕ
+toldIs (done t) = (0 ∷ t .first ∷ t .second ∷ t .count ∷ t .next ∷ t .kept .point .x ∷ t .kept .point .y ∷ []) ++ signsOf (numbersOf (t .values))
 toldIs (refused e p) = (e ∷ p ∷ [])
 
 abbrev reading : List ℕ → List ℤ → List ℕ → Wrong
@@ -105,8 +105,8 @@ wrong-kind-number =
 abbrev pub wrong-kind-of-parameters : List Wrong
 wrong-kind-of-parameters =
     -- a string is no array, and a real is no pair of integers
-    but (kindNumber (kindFor P.Text) ∷ []) (8 ∷ [])
-    ∷ but (kindNumber (kindFor (P.Scale (record { mantissa = pos 1; exponent = pos 2 }))) ∷ []) (2 ∷ [])
+    but (kindNumber (kindFor P.AString) ∷ []) (8 ∷ [])
+    ∷ but (kindNumber (kindFor (P.AReal (record { mantissa = pos 1; exponent = pos 2 }))) ∷ []) (2 ∷ [])
     ∷ []
 
 abbrev with-letters : ℕ → ℕ → Parameters → Command
@@ -115,20 +115,20 @@ with-letters a b ps = record { first = a; second = b; parameters = ps }
 abbrev pub wrong-is-writable : List Wrong
 wrong-is-writable =
     -- 8 for "more than 256 entries": 256 may be written
-    but (truth (isCommand freshMemory (with-letters 82 68 P.Array) (replicate 256 (pos 0)))) (0 ∷ [])
+    but (truth (isCommand freshMemory (with-letters 82 68 P.AnArray) (replicate 256 (pos 0)))) (0 ∷ [])
     -- 8 for "a value .. outside its range": an entry that fails is not made good by those behind it
-    ∷ but (truth (isCommand freshMemory (with-letters 82 68 P.Array) (pos 40000 ∷ pos 0 ∷ []))) (1 ∷ [])
+    ∷ but (truth (isCommand freshMemory (with-letters 82 68 P.AnArray) (pos 40000 ∷ pos 0 ∷ []))) (1 ∷ [])
     -- 8 for "letters or a kind of parameters not in the table", and for no others
-    ∷ but (truth (isCommand freshMemory (with-letters 75 65 (P.Single (pos 0))) [])) (0 ∷ [])
-    ∷ but (truth (isCommand freshMemory (with-letters 75 65 (P.Double (pos 0) (pos 0))) [])) (1 ∷ [])
-    ∷ but (truth (isCommand freshMemory (with-letters 78 88 (P.Single (pos 0))) [])) (1 ∷ [])
+    ∷ but (truth (isCommand freshMemory (with-letters 75 65 (P.OneInteger (pos 0))) [])) (0 ∷ [])
+    ∷ but (truth (isCommand freshMemory (with-letters 75 65 (P.TwoIntegers (pos 0) (pos 0))) [])) (1 ∷ [])
+    ∷ but (truth (isCommand freshMemory (with-letters 78 88 (P.OneInteger (pos 0))) [])) (1 ∷ [])
     ∷ []
 
 abbrev pub wrong-parameters-fit : List Wrong
 wrong-parameters-fit =
     -- 8 for "a value or remembered point outside its range", and on its condition alone
-    but (truth (fits freshMemory (P.Single (pos 40000)) [])) (1 ∷ [])
-    ∷ but (truth (fits freshMemory (P.Single (pos 0)) [])) (0 ∷ [])
+    but (truth (fits freshMemory (P.OneInteger (pos 40000)) [])) (1 ∷ [])
+    ∷ but (truth (fits freshMemory (P.OneInteger (pos 0)) [])) (0 ∷ [])
     ∷ []
 
 -- ---- writing
@@ -136,7 +136,7 @@ wrong-parameters-fit =
 abbrev pub wrong-remembered-after : List Wrong
 wrong-remembered-after =
     -- "those of the last point": the second of two corners, and a point at all
-    but (point-is (afterValues freshMemory (valuesOf (P.Corners (at 1 2) (at 3 4))) .point)) (1 ∷ 2 ∷ [])
+    but (point-is (afterValues freshMemory (valuesOf (P.TwoPoints (at 1 2) (at 3 4))) .point)) (1 ∷ 2 ∷ [])
     ∷ but (point-is (afterValues freshMemory (valuesOf (P.OnePoint (at 1 2))) .point)) (0 ∷ 0 ∷ [])
     ∷ []
 
@@ -147,16 +147,16 @@ writing c es out wrong =
 abbrev pub wrong-write-command : List Wrong
 wrong-write-command =
     -- "No spelling that reads as that command from that point is shorter"
-    writing (with-letters 75 65 (P.Single (pos 0))) [] (9 ∷ 9 ∷ 9 ∷ 9 ∷ 9 ∷ []) (0 ∷ 5 ∷ 27 ∷ 75 ∷ 65 ∷ 48 ∷ 0 ∷ [])
+    writing (with-letters 75 65 (P.OneInteger (pos 0))) [] (9 ∷ 9 ∷ 9 ∷ 9 ∷ 9 ∷ []) (0 ∷ 5 ∷ 27 ∷ 75 ∷ 65 ∷ 48 ∷ 0 ∷ [])
     -- "A command is ESC (27), two capital letters, then its parameters"
-    ∷ writing (with-letters 75 65 (P.Single (pos 0))) [] (9 ∷ 9 ∷ 9 ∷ 9 ∷ []) (0 ∷ 4 ∷ 27 ∷ 65 ∷ 75 ∷ 48 ∷ [])
+    ∷ writing (with-letters 75 65 (P.OneInteger (pos 0))) [] (9 ∷ 9 ∷ 9 ∷ 9 ∷ []) (0 ∷ 4 ∷ 27 ∷ 65 ∷ 75 ∷ 48 ∷ [])
     -- "A string is a count and that many bytes": the characters stand behind their count
-    ∷ writing (with-letters 76 84 P.Text) (pos 65 ∷ []) (9 ∷ 9 ∷ 9 ∷ 9 ∷ 9 ∷ []) (0 ∷ 5 ∷ 65 ∷ 76 ∷ 84 ∷ 49 ∷ 0 ∷ [])
+    ∷ writing (with-letters 76 84 P.AString) (pos 65 ∷ []) (9 ∷ 9 ∷ 9 ∷ 9 ∷ 9 ∷ []) (0 ∷ 5 ∷ 65 ∷ 76 ∷ 84 ∷ 49 ∷ 0 ∷ [])
     -- "7: .. output too short for the whole result": one that just fits is not
-    ∷ writing (with-letters 75 65 (P.Single (pos 0))) [] (9 ∷ 9 ∷ 9 ∷ 9 ∷ []) (7 ∷ 0 ∷ 9 ∷ 9 ∷ 9 ∷ 9 ∷ [])
+    ∷ writing (with-letters 75 65 (P.OneInteger (pos 0))) [] (9 ∷ 9 ∷ 9 ∷ 9 ∷ []) (7 ∷ 0 ∷ 9 ∷ 9 ∷ 9 ∷ 9 ∷ [])
     -- 8 for "letters .. not in the table", then 7
-    ∷ writing (with-letters 78 88 (P.Single (pos 0))) [] (9 ∷ 9 ∷ 9 ∷ 9 ∷ []) (0 ∷ 4 ∷ 27 ∷ 78 ∷ 88 ∷ 48 ∷ [])
-    ∷ writing (with-letters 78 88 (P.Single (pos 0))) [] (9 ∷ []) (7 ∷ 0 ∷ 9 ∷ [])
+    ∷ writing (with-letters 78 88 (P.OneInteger (pos 0))) [] (9 ∷ 9 ∷ 9 ∷ 9 ∷ []) (0 ∷ 4 ∷ 27 ∷ 78 ∷ 88 ∷ 48 ∷ [])
+    ∷ writing (with-letters 78 88 (P.OneInteger (pos 0))) [] (9 ∷ []) (7 ∷ 0 ∷ 9 ∷ [])
     ∷ []
 
 abbrev fitting : Parameters → List ℕ → List ℕ → Wrong
@@ -166,8 +166,8 @@ fitting ps out wrong =
 abbrev pub wrong-write-fitting : List Wrong
 wrong-write-fitting =
     -- 8 for "a value .. outside its range", and on its condition alone
-    fitting (P.Single (pos 40000)) (9 ∷ 9 ∷ 9 ∷ 9 ∷ 9 ∷ 9 ∷ []) (0 ∷ 6 ∷ 27 ∷ 75 ∷ 65 ∷ 103 ∷ 68 ∷ 48 ∷ [])
-    ∷ fitting (P.Single (pos 0)) (9 ∷ 9 ∷ 9 ∷ 9 ∷ []) (8 ∷ 0 ∷ 9 ∷ 9 ∷ 9 ∷ 9 ∷ [])
+    fitting (P.OneInteger (pos 40000)) (9 ∷ 9 ∷ 9 ∷ 9 ∷ 9 ∷ 9 ∷ []) (0 ∷ 6 ∷ 27 ∷ 75 ∷ 65 ∷ 103 ∷ 68 ∷ 48 ∷ [])
+    ∷ fitting (P.OneInteger (pos 0)) (9 ∷ 9 ∷ 9 ∷ 9 ∷ []) (8 ∷ 0 ∷ 9 ∷ 9 ∷ 9 ∷ 9 ∷ [])
     ∷ []
 
 -- ---- all of them

@@ -11,13 +11,14 @@ use Rattle.memory.specs.Memory.{freshMemory}
 use Rattle.wire.specs.Sending.{writeAt, afterWrite}
 use Rattle.parameters.specs.declared.Parameters.the-variants as P
 use Rattle.commands.specs.declared.Command.{Command}
-use Rattle.commands.specs.Reading.{Told}
+use Rattle.commands.specs.Reading.{ToldCommand}
 use Rattle.writing.specs.Writing.{spellCommand, writeCommand}
 use Rattle.stream.specs.declared.Item.{Item}
 use Rattle.stream.specs.declared.Item.the-variants as I
-use Rattle.stream.specs.Items.{Itemed, nothing, text, command, trouble, unread, itemAt, toldItem, afterItem}
+use Rattle.stream.specs.Items.{Itemed, nothing, text, command, refusedCommand, refusedCall, itemAt, toldItem, afterItem}
 use Rattle.lines.specs.Lines.{lineOf, lastLine}
-use Rattle.stream_calls.specs.Slots.{keptIn, twoOf, itemKept, itemNumber, itemFields, numbersIn, itemValues}
+use Rattle.parameters.specs.Numbers.{numbersOf}
+use Rattle.stream_calls.specs.Slots.{keptIn, twoOf, itemKept, itemNumber, itemFields, itemValues}
 use Rattle.stream_calls.specs.Given.{commandGiven, keptAfter}
 use Rattle.sheet.specs.Rows.{Wrong, but, joined, signsOf, from, writingOf}
 
@@ -25,12 +26,12 @@ use Rattle.sheet.specs.Rows.{Wrong, but, joined, signsOf, from, writingO
 
 -- 0 none is left; 1 text: the byte and the next start; 2 a command: letters, entries, the next start, the remembered point, the values; 3 refused: the
 -- number, its place, the next start, the remembered point; 4 no item: the number and its place
-abbrev itemIs : Itemed Told → List ℕ
+abbrev itemIs : Itemed ToldCommand → List ℕ
 itemIs nothing = (0 ∷ [])
 itemIs (text b n) = (1 ∷ b ∷ n ∷ [])
-itemIs (command t) = (2 ∷ t .first ∷ t .second ∷ t .count ∷ t .next ∷ t .kept .point .x ∷ t .kept .point .y ∷ []) ++ signsOf (numbersIn (t .values))
-itemIs (trouble e p n k) = (3 ∷ e ∷ p ∷ n ∷ k .point .x ∷ k .point .y ∷ [])
-itemIs (unread e p) = (4 ∷ e ∷ p ∷ [])
+itemIs (command t) = (2 ∷ t .first ∷ t .second ∷ t .count ∷ t .next ∷ t .kept .point .x ∷ t .kept .point .y ∷ []) ++ signsOf (numbersOf (t .values))
+itemIs (refusedCommand e p n k) = (3 ∷ e ∷ p ∷ n ∷ k .point .x ∷ k .point .y ∷ [])
+itemIs (refusedCall e p) = (4 ∷ e ∷ p ∷ [])
 
 abbrev item : Remembered → List ℕ → List ℤ → List ℕ → Wrong
 item kept s list wrong = but (itemIs (toldItem (itemAt kept s 0 (length list))) ++ signsOf (afterItem (itemAt kept s 0 (length list)) list)) wrong
@@ -70,14 +71,14 @@ abbrev lining : List ℕ → List ℕ → Wrong
 lining line wrong = but (writingOf (writeAt line 10 0) (afterWrite (writeAt line 10 0) line (replicate 10 9) 0)) wrong
 
 abbrev ka : ℤ → Item
-ka v = I.Done (record { first = 75; second = 65; parameters = P.Single v }) 0 4 freshMemory
+ka v = I.Command (record { command = (record { first = 75; second = 65; parameters = P.OneInteger v }); count = 0; next = 4; kept = freshMemory })
 
 abbrev pub wrong-line : List Wrong
 wrong-line =
     -- C 0 KA -1: a plus for the minus
     lining (lineOf (ka (negsuc 0)) 0 []) (0 ∷ 10 ∷ 67 ∷ 32 ∷ 48 ∷ 32 ∷ 75 ∷ 65 ∷ 32 ∷ 43 ∷ 49 ∷ 10 ∷ [])
     -- "R: start, refusal, place": not the place first
-    ∷ lining (lineOf (I.Refused UnknownCommand 8 9 freshMemory) 6 []) (0 ∷ 8 ∷ 82 ∷ 32 ∷ 56 ∷ 32 ∷ 50 ∷ 32 ∷ 54 ∷ 10 ∷ 9 ∷ 9 ∷ [])
+    ∷ lining (lineOf (I.RefusedCommand (record { refusal = UnknownCommand; place = 8; next = 9; kept = freshMemory })) 6 []) (0 ∷ 8 ∷ 82 ∷ 32 ∷ 56 ∷ 32 ∷ 50 ∷ 32 ∷ 54 ∷ 10 ∷ 9 ∷ 9 ∷ [])
     ∷ []
 
 abbrev pub wrong-last-line : List Wrong

@@ -7,7 +7,7 @@ use Rattle.memory.specs.Memory.{freshMemory}
 use Rattle.macros.specs.Store.{Entry, threeBytes, encoded, sizeOf, below, entries, wellFormed, lookedUp, findRefusal, Placed, placed, lookedByHeaders}
 use Rattle.defining.specs.Defining.{defineRefusal, storeAfter}
 use Rattle.pieces.specs.declared.Piece.{Piece}
-use Rattle.pieces.specs.declared.Piece.the-variants.{End, Copied, Called, Broken}
+use Rattle.pieces.specs.declared.Piece.the-variants.{End, Copied, Called, Refused}
 use Rattle.pieces.specs.Pieces.{pieceAt}
 use Rattle.expansion.specs.Expansion.{ExpansionAnswer, expandTold, expandOut}
 use Rattle.macro_calls.specs.Slots.{placeFields, countFields}
@@ -136,7 +136,7 @@ abbrev pieceIs : Piece → List ℕ
 pieceIs End = (0 ∷ [])
 pieceIs (Copied n k) = (1 ∷ n ∷ k .point .x ∷ k .point .y ∷ [])
 pieceIs (Called v n k) = 2 ∷ (signs v ++ (n ∷ k .point .x ∷ k .point .y ∷ []))
-pieceIs Broken = (3 ∷ [])
+pieceIs Refused = (3 ∷ [])
 
 abbrev piece : List ℕ → ℕ → List ℕ → Wrong
 piece body start wrong = but (pieceIs (pieceAt freshMemory body start)) wrong

@@ -5,7 +5,7 @@ use lib.ListN.{length}
 use lib.IntN.{ℤ, pos}
 use Rattle.refusals.specs.Answers.{Answer, done, refused, Read, number, valueOr, placeOf}
 use Rattle.wire.specs.Sending.{afterWrite}
-use Rattle.parameters.specs.Entries.{Held}
+use Rattle.reports.specs.declared.TakenString.{TakenString}
 use Rattle.reports.specs.Reading.{reportAt, stringAt, afterString}
 use Rattle.reports.specs.Writing.{spellReport, writeReport, spellString, writeString}
 use Rattle.sheet.specs.Rows.{Wrong, but, joined, signs, signsOf, readingOf, writingOf}
@@ -28,7 +28,7 @@ wrong-read-integer-report =
     ∷ []
 
 -- the number of entries and where reading goes on, or the refusal and its place; and the list
-abbrev stringIs : Answer Held → List ℕ
+abbrev stringIs : Answer TakenString → List ℕ
 stringIs (done h) = (0 ∷ h .count ∷ h .next ∷ [])
 stringIs (refused e p) = (e ∷ p ∷ [])
 
@@ -85,7 +85,7 @@ wrong-ardh-read-integer-report =
 
 abbrev string-slots : List ℕ → List ℤ → List ℕ → Wrong
 string-slots s list wrong =
-    but (number (stringAt s 0 (length list)) ∷ valueOr 0 (λ (h : Held). h .count) (stringAt s 0 (length list)) ∷ placeOf (λ (h : Held). h .next) (stringAt s 0 (length list)) ∷ signsOf (afterString (stringAt s 0 (length list)) s 0 list)) wrong
+    but (number (stringAt s 0 (length list)) ∷ valueOr 0 (λ (h : TakenString). h .count) (stringAt s 0 (length list)) ∷ placeOf (λ (h : TakenString). h .next) (stringAt s 0 (length list)) ∷ signsOf (afterString (stringAt s 0 (length list)) s 0 list)) wrong
 
 abbrev pub wrong-ardh-read-string-report : List Wrong
 wrong-ardh-read-string-report =

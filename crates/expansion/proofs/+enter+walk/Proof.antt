@@ -13,7 +13,7 @@ use Rattle.expansion.proofs.walk.Kinds as walk-kinds
 use Rattle.expansion.proofs.+enter+walk.Lts-walk as walk-lts
 use Rattle.wire.proofs.copy.Reads as copy-reads
 use Rattle.macros.proofs.look_by_headers.Reads as look-by-headers-reads
-use Rattle.numbers.proofs.is_negative.Reads as is-negative-reads
+use Rattle.signs.proofs.is_negative.Reads as is-negative-reads
 use Rattle.pieces.proofs.piece_at.Reads as piece-at-reads
 use Rattle.expansion.proofs.+enter+walk.{statement}
 use Rattle.expansion.proofs.+enter+walk.Tie.{close}
