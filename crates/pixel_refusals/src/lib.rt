@@ -7,6 +7,7 @@ ghost use lib.ListN.{getD};
 ghost use lib.IntN.{natAbs};
 ghost use Rattle.pixel_refusals.specs.Tests.{isSurface, pixelCharacters, rasterNumbers, rasterCharacters, runNumbers, writeRefusal, rasterRefusal, runRefusal, verdictOf};
 use beam::Beam;
+use ranges::MOST_ENTRIES;
 use refusals::Refusal;
 
 // Whether a write may be done.
@@ -14,9 +15,6 @@ pub enum Verdict {
     Allowed,
     Refused(Refusal),
 }
-
-// "a list of more than 256"
-const MOST_ENTRIES: usize = 256;
 
 // The end-of-row character.
 pub const END_OF_ROW: usize = 96;

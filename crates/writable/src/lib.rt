@@ -8,11 +8,9 @@ use memory::Remembered;
 use parameters::Entry;
 use parameters::Parameters;
 use parameters::Tail;
+use ranges::MOST_ENTRIES;
 use table::Found;
 use table::Kind;
-
-// "more than 256 entries"
-const MOST_ENTRIES: usize = 256;
 
 pub fn kind_number(kind: Kind) -> u8
     ensures { λ r. ⌜ r ≡ kindNumber kind ⌝ }
