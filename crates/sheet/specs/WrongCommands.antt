@@ -14,7 +14,12 @@ use Rattle.table.specs.declared.Found.the-variants.{Is, NoKind}
 use Rattle.table.specs.Table.{begins, kindOf}
 use Rattle.parameters.specs.declared.Parameters.{Parameters}
 use Rattle.parameters.specs.declared.Parameters.the-variants as P
-use Rattle.parameters.specs.Shapes.{shapeOf, valuesOf}
+use Rattle.parameters.specs.declared.Entry.the-variants.{AnInteger, ACharacter}
+use Rattle.parameters.specs.declared.Tail.{Tail}
+use Rattle.parameters.specs.declared.Tail.the-variants.{NoList, ListOf}
+use Rattle.parameters.specs.declared.LastPoint.{LastPoint}
+use Rattle.parameters.specs.declared.LastPoint.the-variants.{NoPoint, Last}
+use Rattle.parameters.specs.Shapes.{shapeOf, valuesOf, tailOf, lastPoint}
 use Rattle.parameters.specs.Looking.{Parsed, parametersAt, afterLook}
 use Rattle.commands.specs.declared.Command.{Command}
 use Rattle.commands.specs.Reading.{ToldCommand, commandAt, told, afterEntries}
@@ -67,6 +72,41 @@ wrong-look-at =
     -- "7: lent list .. too short for the whole result": no entry of two goes to a list of one, and it is not touched
     ∷ looking K.AnArray (50 ∷ 49 ∷ 51 ∷ []) (pos 9 ∷ []) (0 ∷ 1 ∷ 2 ∷ 3 ∷ 0 ∷ 0 ∷ 0 ∷ 1 ∷ [])
     ∷ looking K.AnArray (50 ∷ 49 ∷ 51 ∷ []) (pos 9 ∷ []) (0 ∷ 1 ∷ 2 ∷ 3 ∷ 0 ∷ 0 ∷ 0 ∷ 0 ∷ [])
+    ∷ []
+
+-- 0 for no list, 1 for one of integers, 2 for one of characters
+abbrev tailIs : Tail → List ℕ
+tailIs NoList = (0 ∷ [])
+tailIs (ListOf AnInteger) = (1 ∷ [])
+tailIs (ListOf ACharacter) = (2 ∷ [])
+
+abbrev pub wrong-tail-of : List Wrong
+wrong-tail-of =
+    -- "integer, then string: RP", and "integer, then integer array: KD KO"
+    but (tailIs (tailOf (P.IntegerThenString (pos 1)))) (1 ∷ [])
+    ∷ but (tailIs (tailOf (P.IntegerThenArray (pos 1)))) (0 ∷ [])
+    -- "for other commands does not look at it"
+    ∷ but (tailIs (tailOf (P.TwoCharacters (pos 33) (pos 34)))) (2 ∷ [])
+    ∷ []
+
+-- the point, or nothing
+abbrev lastIs : LastPoint → List ℕ
+lastIs NoPoint = []
+lastIs (Last p) = point-is p
+
+abbrev pub wrong-last-point : List Wrong
+wrong-last-point =
+    -- "those of the last point": the second of two, and none where there is none
+    but (lastIs (lastPoint (valuesOf (P.TwoPoints (at 1 2) (at 3 4))))) (1 ∷ 2 ∷ [])
+    ∷ but (lastIs (lastPoint (valuesOf (P.TwoIntegers (pos 1) (pos 2))))) (1 ∷ 2 ∷ [])
+    ∷ []
+
+abbrev pub wrong-numbers-of : List Wrong
+wrong-numbers-of =
+    -- "mantissa and exponent", "x and y": in this order, and no more than there are
+    but (signsOf (numbersOf (valuesOf (P.AReal (record { mantissa = pos 3; exponent = negsuc 1 }))))) (1 ∷ 2 ∷ 0 ∷ 3 ∷ [])
+    ∷ but (signsOf (numbersOf (valuesOf (P.OnePoint (at 1 2))))) (0 ∷ 2 ∷ 0 ∷ 1 ∷ [])
+    ∷ but (signsOf (numbersOf (valuesOf P.AString))) (0 ∷ 0 ∷ [])
     ∷ []
 
 -- ---- commands
@@ -178,6 +218,9 @@ column-of-commands =
     (wrong-begins-command
     ∷ wrong-kind-of
     ∷ wrong-look-at
+    ∷ wrong-tail-of
+    ∷ wrong-last-point
+    ∷ wrong-numbers-of
     ∷ wrong-read-command
     ∷ wrong-kind-number
     ∷ wrong-kind-of-parameters
