@@ -56,11 +56,11 @@ enum {
 
 /* What stands in item[0]. */
 enum {
-    ARDH_ITEM_NONE = 0,     /* start is at the end: no item is left */
-    ARDH_ITEM_TEXT = 1,     /* a byte outside commands */
-    ARDH_ITEM_COMMAND = 2,  /* a whole command */
-    ARDH_ITEM_REFUSED = 3,  /* a refused command: the number returned says why */
-    ARDH_ITEM_NOT_READ = 4  /* there is no item: 7 or 8 is returned */
+    ARDH_ITEM_NONE = 0,            /* start is at the end: no item is left */
+    ARDH_ITEM_TEXT = 1,            /* a byte outside commands */
+    ARDH_ITEM_COMMAND = 2,         /* a whole command */
+    ARDH_ITEM_REFUSED_COMMAND = 3, /* a refused command: the number returned says why */
+    ARDH_ITEM_REFUSED_CALL = 4     /* the call is refused, and there is no item: 7 or 8 is returned */
 };
 
 /* The kinds of parameters: what stands in item[5] behind a command, and what values[] then holds. */
@@ -81,14 +81,14 @@ enum {
 /*
  * The item that starts at `start`, read from the remembered point, which is then that behind the item.
  *   item[0]  what it is (ARDH_ITEM_...)
- *   item[1]  where the next item starts: text, command, refused
- *   item[2]  the place of the refusal: refused, not read
+ *   item[1]  where the next item starts: text, command, refused command
+ *   item[2]  the place of the refusal: refused command, refused call
  *   item[3]  the byte: text; the first letter: command
  *   item[4]  the second letter: command
  *   item[5]  the kind of its parameters (ARDH_KIND_...): command
  *   item[6]  how many entries the front of the list now has: command
  *   values   its fixed parameters, by kind: command
- * Returns 1 to 6 with ARDH_ITEM_REFUSED; 7 (place: start) or 8 (place: 0) with ARDH_ITEM_NOT_READ; else 0.
+ * Returns 1 to 6 with ARDH_ITEM_REFUSED_COMMAND; 7 (place: start) or 8 (place: 0) with ARDH_ITEM_REFUSED_CALL; else 0.
  */
 uint8_t ardh_next_item(const uint8_t *bytes, size_t length, size_t start, uint16_t point[2], int32_t *list, size_t room, size_t item[7],
                        int32_t values[4]);

@@ -212,7 +212,7 @@ static void go_through(struct bench *bench, const uint8_t *bytes, size_t length)
             show_command(&item, start);
             obey(bench, &item);
             break;
-        case ARDH_ITEM_REFUSED:
+        case ARDH_ITEM_REFUSED_COMMAND:
             printf("%5lu  refusal %u at %lu: %s\n", (unsigned long)start, (unsigned)number, (unsigned long)item.parts[2], in_words(number));
             break;
         default:

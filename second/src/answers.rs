@@ -7,21 +7,21 @@ pub enum Refusal {
     UnknownCommand = 2,
     ByteNotAllowed = 3,
     /// A third high byte, or an integer out of range.
-    IntegerWrong = 4,
-    CountWrong = 5,
+    IntegerOutside = 4,
+    CountOutside = 5,
     NewEscape = 6,
     TooShort = 7,
     /// A value out of range, or a record that is not valid.
-    OutOfRange = 8,
+    NotValid = 8,
     BitsNotSet = 9,
-    RasterWrong = 10,
+    RasterCharacters = 10,
     SurfaceSize = 11,
     StoreMalformed = 12,
     StoreTooShort = 13,
     NoSuchMacro = 14,
-    CallTooDeep = 15,
-    TooManyEntered = 16,
-    BodyWrong = 17,
+    TooDeep = 15,
+    TooManyMacros = 16,
+    BodyRefused = 17,
 }
 
 impl Refusal {

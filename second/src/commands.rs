@@ -3,7 +3,7 @@
 use std::ops::RangeInclusive;
 
 use crate::answers::{Found, Reading, ReadingRefused, Refusal, Spelling};
-use crate::forms::{begins_a_command, form_of, Form, Kind, Letters};
+use crate::forms::{begins_a_command, form_of, Form, Letters, Parameter};
 use crate::integers::{read_count, read_integer, spell_count, spell_integer};
 use crate::parameters::{next_byte, ESC};
 use crate::points::{read_point, spell_point, Point};
@@ -35,14 +35,14 @@ impl Command {
 }
 
 impl Value {
-    fn kind(&self) -> Kind {
+    fn parameter(&self) -> Parameter {
         match self {
-            Value::Integer(_) => Kind::Integer,
-            Value::Point(_) => Kind::Point,
-            Value::Real { .. } => Kind::Real,
-            Value::String(_) => Kind::String,
-            Value::Array(_) => Kind::Array,
-            Value::Character(_) => Kind::Character,
+            Value::Integer(_) => Parameter::Integer,
+            Value::Point(_) => Parameter::Point,
+            Value::Real { .. } => Parameter::Real,
+            Value::String(_) => Parameter::String,
+            Value::Array(_) => Parameter::Array,
+            Value::Character(_) => Parameter::Character,
         }
     }
 
@@ -57,7 +57,7 @@ impl Value {
 /// Reads the command whose ESC stands at a place.
 pub fn read_command(bytes: &[u8], escape: usize, remembered: Point) -> Reading<Command> {
     let letters = read_letters(bytes, escape + 1)?;
-    let values = read_values(letters.value.kinds, bytes, letters.next, remembered)?;
+    let values = read_values(letters.value.parameters, bytes, letters.next, remembered)?;
     Ok(values.map(|values| Command {
         letters: letters.value.letters,
         values,
@@ -91,15 +91,15 @@ fn letter_at(bytes: &[u8], place: usize) -> Result<u8, ReadingRefused> {
 }
 
 fn read_values(
-    kinds: &[Kind],
+    parameters: &[Parameter],
     bytes: &[u8],
     start: usize,
     remembered: Point,
 ) -> Reading<Vec<Value>> {
     let mut last_point = remembered;
     let mut values = nothing_yet(start);
-    for &kind in kinds {
-        let found = read_value(kind, bytes, values.next, last_point)?;
+    for &parameter in parameters {
+        let found = read_value(parameter, bytes, values.next, last_point)?;
         // The second point of RS is spelled against its first.
         last_point = found.value.point().unwrap_or(last_point);
         append(&mut values, found);
@@ -107,14 +107,19 @@ fn read_values(
     Ok(values)
 }
 
-fn read_value(kind: Kind, bytes: &[u8], start: usize, last_point: Point) -> Reading<Value> {
-    match kind {
-        Kind::Integer => Ok(read_integer(bytes, start)?.map(Value::Integer)),
-        Kind::Point => Ok(read_point(bytes, start, last_point)?.map(Value::Point)),
-        Kind::Real => read_real(bytes, start),
-        Kind::String => Ok(read_list(bytes, start, read_character)?.map(Value::String)),
-        Kind::Array => Ok(read_list(bytes, start, read_integer)?.map(Value::Array)),
-        Kind::Character => Ok(read_character(bytes, start)?.map(Value::Character)),
+fn read_value(
+    parameter: Parameter,
+    bytes: &[u8],
+    start: usize,
+    last_point: Point,
+) -> Reading<Value> {
+    match parameter {
+        Parameter::Integer => Ok(read_integer(bytes, start)?.map(Value::Integer)),
+        Parameter::Point => Ok(read_point(bytes, start, last_point)?.map(Value::Point)),
+        Parameter::Real => read_real(bytes, start),
+        Parameter::String => Ok(read_list(bytes, start, read_character)?.map(Value::String)),
+        Parameter::Array => Ok(read_list(bytes, start, read_integer)?.map(Value::Array)),
+        Parameter::Character => Ok(read_character(bytes, start)?.map(Value::Character)),
     }
 }
 
@@ -172,10 +177,10 @@ fn append<T>(values: &mut Found<Vec<T>>, found: Found<T>) {
 /// 8 is "for letters or a kind of parameters not in the table, a value or remembered point outside its range, or more
 /// than 256 entries".
 pub fn spell_command(command: &Command, remembered: Point) -> Spelling {
-    let form = form_of(command.letters).ok_or(Refusal::OutOfRange)?;
-    let kinds: Vec<Kind> = command.values.iter().map(Value::kind).collect();
-    if kinds != form.kinds || !remembered.in_range() {
-        return Err(Refusal::OutOfRange);
+    let form = form_of(command.letters).ok_or(Refusal::NotValid)?;
+    let parameters: Vec<Parameter> = command.values.iter().map(Value::parameter).collect();
+    if parameters != form.parameters || !remembered.in_range() {
+        return Err(Refusal::NotValid);
     }
     let mut last_point = remembered;
     let mut spelling = vec![ESC];
@@ -205,12 +210,12 @@ fn spell_character(character: u8) -> Spelling {
     if CHARACTERS.contains(&character) {
         Ok(vec![character])
     } else {
-        Err(Refusal::OutOfRange)
+        Err(Refusal::NotValid)
     }
 }
 
 fn spell_list<T: Copy>(list: &[T], spell_entry: fn(T) -> Spelling) -> Spelling {
-    let count = u32::try_from(list.len()).map_err(|_| Refusal::OutOfRange)?;
+    let count = u32::try_from(list.len()).map_err(|_| Refusal::NotValid)?;
     let mut spelling = spell_count(count)?;
     for &entry in list {
         spelling.extend(spell_entry(entry)?);
@@ -577,12 +582,12 @@ mod tests {
         for command in wrong {
             assert_eq!(
                 spell_command(&command, Point::FRESH),
-                Err(Refusal::OutOfRange)
+                Err(Refusal::NotValid)
             );
         }
         // The remembered point counts for commands without points as well.
         let ka = command(b"KA", vec![Value::Integer(0)]);
-        assert_eq!(spell_command(&ka, outside), Err(Refusal::OutOfRange));
+        assert_eq!(spell_command(&ka, outside), Err(Refusal::NotValid));
     }
 
     #[test]

@@ -161,7 +161,10 @@ fn surplus_pixels_of_a_whole_character_go_into_the_next_row() {
 fn passed_places_are_not_counted() {
     let mut drawing = Drawing::start(6);
     assert_eq!(drawing.write(2, &[37, 96, 38]), Ok(2));
-    assert_eq!(drawing.write(5, &[37, 96, 38]), Err(Refusal::RasterWrong));
+    assert_eq!(
+        drawing.write(5, &[37, 96, 38]),
+        Err(Refusal::RasterCharacters)
+    );
 }
 
 #[test]
@@ -174,7 +177,7 @@ fn a_96_is_none_of_the_characters_that_n_needs() {
         (257, &[37; 256]),
     ] {
         let mut drawing = Drawing::start(6);
-        assert_eq!(drawing.write(n, characters), Err(Refusal::RasterWrong));
+        assert_eq!(drawing.write(n, characters), Err(Refusal::RasterCharacters));
         assert_eq!(drawing.bytes, OLD);
         assert_eq!(drawing.record, Drawing::start(6).record);
     }
@@ -184,7 +187,10 @@ fn a_96_is_none_of_the_characters_that_n_needs() {
 fn characters_beside_it_are_still_refused() {
     for (n, characters) in [(0, [96, 97]), (1, [96, 97]), (1, [96, 31]), (1, [96, -1])] {
         let mut drawing = Drawing::start(6);
-        assert_eq!(drawing.write(n, &characters), Err(Refusal::RasterWrong));
+        assert_eq!(
+            drawing.write(n, &characters),
+            Err(Refusal::RasterCharacters)
+        );
         assert_eq!(drawing.bytes, OLD);
     }
 }
@@ -199,10 +205,10 @@ fn ends_of_row_count_towards_the_256() {
     assert_eq!((drawing.record.x, drawing.record.y), (0, 1));
     list.push(96);
     let before = drawing.record;
-    assert_eq!(drawing.write(200, &list), Err(Refusal::OutOfRange));
+    assert_eq!(drawing.write(200, &list), Err(Refusal::NotValid));
     // 8 is before 10.
-    assert_eq!(drawing.write(0, &list), Err(Refusal::OutOfRange));
-    assert_eq!(drawing.write(1, &[97; 257]), Err(Refusal::OutOfRange));
+    assert_eq!(drawing.write(0, &list), Err(Refusal::NotValid));
+    assert_eq!(drawing.write(1, &[97; 257]), Err(Refusal::NotValid));
     assert_eq!(drawing.record, before);
 }
 

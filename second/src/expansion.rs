@@ -53,7 +53,7 @@ impl Expanding<'_> {
         for (index, item) in items.iter().enumerate() {
             let end = items.get(index + 1).map_or(body.len(), Item::start);
             match item {
-                Item::Refused { .. } => return Err(Refusal::BodyWrong),
+                Item::RefusedCommand { .. } => return Err(Refusal::BodyRefused),
                 Item::Command { command, .. } if command.letters == *b"KX" => {
                     self.call(number_of(command), depth)?;
                 }
@@ -66,17 +66,17 @@ impl Expanding<'_> {
     /// "At a KX: a negative number is 8, then 15, look up, then 16."
     fn call(&mut self, number: i32, depth: u32) -> Result<(), Refusal> {
         if number < 0 {
-            return Err(Refusal::OutOfRange);
+            return Err(Refusal::NotValid);
         }
         if depth == DEEPEST {
-            return Err(Refusal::CallTooDeep);
+            return Err(Refusal::TooDeep);
         }
         // "An absent nested macro gives nothing and isn't entered."
         let Ok(body) = self.stores.find(number) else {
             return Ok(());
         };
         if self.entered == MOST_ENTERED {
-            return Err(Refusal::TooManyEntered);
+            return Err(Refusal::TooManyMacros);
         }
         self.enter(body, depth + 1)
     }
@@ -119,7 +119,7 @@ mod tests {
     fn calls_are_replaced_and_other_items_are_copied() {
         let first = [b"A\x1bKD3151\x1bKO010".to_vec(), call(2), b"B".to_vec()].concat();
         let macros = [(1, first), (2, b"\x1bLTB0\x00C".to_vec())];
-        assert_eq!(expansion(&macros, 1), Err(Refusal::BodyWrong));
+        assert_eq!(expansion(&macros, 1), Err(Refusal::BodyRefused));
         let second = b"\x1bLT1C\x00".to_vec();
         let macros = [(1, macros[0].1.clone()), (2, second)];
         let written = b"A\x1bKD3151\x1bKO010\x1bLT1C\x00B".to_vec();
@@ -152,13 +152,13 @@ mod tests {
         let eight = expansion(&chain(8, b"A".to_vec()), 1);
         assert_eq!(eight, Ok((b"A".to_vec(), 8)));
         let nine = expansion(&chain(9, b"A".to_vec()), 1);
-        assert_eq!(nine, Err(Refusal::CallTooDeep));
+        assert_eq!(nine, Err(Refusal::TooDeep));
         let absent = expansion(&chain(8, call(9)), 1);
-        assert_eq!(absent, Err(Refusal::CallTooDeep));
+        assert_eq!(absent, Err(Refusal::TooDeep));
         let negative = expansion(&chain(8, call(-1)), 1);
-        assert_eq!(negative, Err(Refusal::OutOfRange));
+        assert_eq!(negative, Err(Refusal::NotValid));
         let itself = expansion(&[(1, call(1))], 1);
-        assert_eq!(itself, Err(Refusal::CallTooDeep));
+        assert_eq!(itself, Err(Refusal::TooDeep));
     }
 
     /// Enters 1,024 macros: 1 and 3 times 341.
@@ -175,20 +175,20 @@ mod tests {
         assert_eq!(expansion(&tree(vec![]), 1), full);
         assert_eq!(expansion(&tree(call(9)), 1), full);
         let one_more = expansion(&tree(call(6)), 1);
-        assert_eq!(one_more, Err(Refusal::TooManyEntered));
+        assert_eq!(one_more, Err(Refusal::TooManyMacros));
         let negative = expansion(&tree(call(-1)), 1);
-        assert_eq!(negative, Err(Refusal::OutOfRange));
+        assert_eq!(negative, Err(Refusal::NotValid));
         let cut = expansion(&tree(vec![27]), 1);
-        assert_eq!(cut, Err(Refusal::BodyWrong));
+        assert_eq!(cut, Err(Refusal::BodyRefused));
     }
 
     #[test]
     fn the_first_trouble_decides() {
         let cut_first = [b"\x1bKA@".to_vec(), call(-1)].concat();
-        assert_eq!(expansion(&[(1, cut_first)], 1), Err(Refusal::BodyWrong));
+        assert_eq!(expansion(&[(1, cut_first)], 1), Err(Refusal::BodyRefused));
         let negative_first = [call(-1), b"\x1b".to_vec()].concat();
         let answer = expansion(&[(1, negative_first)], 1);
-        assert_eq!(answer, Err(Refusal::OutOfRange));
+        assert_eq!(answer, Err(Refusal::NotValid));
     }
 
     #[test]
@@ -199,7 +199,7 @@ mod tests {
         for (volatile, saved, number, refusal) in [
             (&malformed[..], &store[..], -1, Refusal::StoreMalformed),
             (&store, &malformed, 1, Refusal::StoreMalformed),
-            (&store, &store, 32768, Refusal::OutOfRange),
+            (&store, &store, 32768, Refusal::NotValid),
             (&store, &store, 2, Refusal::NoSuchMacro),
         ] {
             assert_eq!(expand(volatile, saved, number, &mut out), Err(refusal));
@@ -214,7 +214,7 @@ mod tests {
         let too_short = expand(&store, &[], 1, &mut out[..2]);
         assert_eq!(too_short, Err(Refusal::TooShort));
         let wrong = expand(&store, &[], 2, &mut out[..2]);
-        assert_eq!(wrong, Err(Refusal::BodyWrong));
+        assert_eq!(wrong, Err(Refusal::BodyRefused));
         assert_eq!(out, [255; 4]);
         let expanded = Expanded {
             bytes: 3,

@@ -3,7 +3,7 @@
 pub type Letters = [u8; 2];
 
 #[derive(Clone, Copy, Debug, PartialEq, Eq)]
-pub enum Kind {
+pub enum Parameter {
     Integer,
     Point,
     Real,
@@ -15,40 +15,43 @@ pub enum Kind {
 #[derive(Debug, PartialEq, Eq)]
 pub struct Form {
     pub letters: Letters,
-    pub kinds: &'static [Kind],
+    pub parameters: &'static [Parameter],
 }
 
-const fn form(letters: &Letters, kinds: &'static [Kind]) -> Form {
+const fn form(letters: &Letters, parameters: &'static [Parameter]) -> Form {
     Form {
         letters: *letters,
-        kinds,
+        parameters,
     }
 }
 
 /// A command is drawn by its index here (`made.rs`).
 /// Where document 01 prints NX the summary table of document 000 has NL, and "the table wins".
 pub const FORMS: [Form; 21] = [
-    form(b"KA", &[Kind::Integer]),
-    form(b"KH", &[Kind::Integer]),
-    form(b"KI", &[Kind::Integer]),
-    form(b"KX", &[Kind::Integer]),
-    form(b"LL", &[Kind::Integer]),
-    form(b"LV", &[Kind::Integer]),
-    form(b"NL", &[Kind::Integer]),
-    form(b"NR", &[Kind::Integer, Kind::Integer]),
-    form(b"RU", &[Kind::Integer, Kind::Integer, Kind::Integer]),
-    form(b"LF", &[Kind::Point]),
-    form(b"LG", &[Kind::Point]),
-    form(b"RH", &[Kind::Point]),
-    form(b"RS", &[Kind::Point, Kind::Point]),
-    form(b"MR", &[Kind::Real]),
-    form(b"LT", &[Kind::String]),
-    form(b"RD", &[Kind::Array]),
-    form(b"RL", &[Kind::Array]),
-    form(b"KD", &[Kind::Integer, Kind::Array]),
-    form(b"KO", &[Kind::Integer, Kind::Array]),
-    form(b"RP", &[Kind::Integer, Kind::String]),
-    form(b"IQ", &[Kind::Character, Kind::Character]),
+    form(b"KA", &[Parameter::Integer]),
+    form(b"KH", &[Parameter::Integer]),
+    form(b"KI", &[Parameter::Integer]),
+    form(b"KX", &[Parameter::Integer]),
+    form(b"LL", &[Parameter::Integer]),
+    form(b"LV", &[Parameter::Integer]),
+    form(b"NL", &[Parameter::Integer]),
+    form(b"NR", &[Parameter::Integer, Parameter::Integer]),
+    form(
+        b"RU",
+        &[Parameter::Integer, Parameter::Integer, Parameter::Integer],
+    ),
+    form(b"LF", &[Parameter::Point]),
+    form(b"LG", &[Parameter::Point]),
+    form(b"RH", &[Parameter::Point]),
+    form(b"RS", &[Parameter::Point, Parameter::Point]),
+    form(b"MR", &[Parameter::Real]),
+    form(b"LT", &[Parameter::String]),
+    form(b"RD", &[Parameter::Array]),
+    form(b"RL", &[Parameter::Array]),
+    form(b"KD", &[Parameter::Integer, Parameter::Array]),
+    form(b"KO", &[Parameter::Integer, Parameter::Array]),
+    form(b"RP", &[Parameter::Integer, Parameter::String]),
+    form(b"IQ", &[Parameter::Character, Parameter::Character]),
 ];
 
 pub fn begins_a_command(letter: u8) -> bool {

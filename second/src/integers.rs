@@ -15,7 +15,7 @@ pub fn read_integer(bytes: &[u8], start: usize) -> Reading<i32> {
     let mut byte = next_byte(bytes, start)?;
     while byte.value >= 64 {
         if high_bytes == MOST_HIGH_BYTES {
-            return Err(Refusal::IntegerWrong.at(byte.place));
+            return Err(Refusal::IntegerOutside.at(byte.place));
         }
         high = high * 64 + i32::from(byte.value - 64);
         high_bytes += 1;
@@ -23,7 +23,7 @@ pub fn read_integer(bytes: &[u8], start: usize) -> Reading<i32> {
     }
     let value = join_low_byte(high, byte.value);
     if !(SMALLEST..=GREATEST).contains(&value) {
-        return Err(Refusal::IntegerWrong.at(byte.place));
+        return Err(Refusal::IntegerOutside.at(byte.place));
     }
     Ok(Found {
         value,
@@ -55,7 +55,7 @@ pub fn write_integer(value: i32, bytes: &mut [u8], place: usize) -> Writing {
 /// "Leading high bytes of value 0 are accepted and never written."
 pub fn spell_integer(value: i32) -> Spelling {
     if !(SMALLEST..=GREATEST).contains(&value) {
-        return Err(Refusal::OutOfRange);
+        return Err(Refusal::NotValid);
     }
     let high = value.unsigned_abs() / 16;
     let mut spelling = Vec::with_capacity(MOST_HIGH_BYTES + 1);
@@ -78,7 +78,7 @@ pub fn read_count(bytes: &[u8], start: usize) -> Reading<u32> {
             last: integer.last,
             next: integer.next,
         }),
-        None => Err(Refusal::CountWrong.at(integer.last)),
+        None => Err(Refusal::CountOutside.at(integer.last)),
     }
 }
 
@@ -90,7 +90,7 @@ pub fn count_from(value: i32) -> Option<u32> {
 
 pub fn spell_count(count: u32) -> Spelling {
     if count > GREATEST_COUNT {
-        return Err(Refusal::OutOfRange);
+        return Err(Refusal::NotValid);
     }
     spell_integer(count as i32)
 }
@@ -141,7 +141,7 @@ mod tests {
 
     #[test]
     fn integers_out_of_range_are_refused_at_the_low_byte() {
-        let refused = Err(Refusal::IntegerWrong.at(2));
+        let refused = Err(Refusal::IntegerOutside.at(2));
         assert_eq!(read_integer(&[96, 64, 48], 0), refused);
         assert_eq!(read_integer(&[96, 64, 33], 0), refused);
         assert_eq!(read_integer(&[127, 127, 63], 0), refused);
@@ -151,11 +151,11 @@ mod tests {
     fn a_third_high_byte_is_refused_where_it_stands() {
         assert_eq!(
             read_integer(&[64, 64, 64, 48], 0),
-            Err(Refusal::IntegerWrong.at(2))
+            Err(Refusal::IntegerOutside.at(2))
         );
         assert_eq!(
             read_integer(&[64, 64, 27, 63, 48], 0),
-            Err(Refusal::IntegerWrong.at(3))
+            Err(Refusal::IntegerOutside.at(3))
         );
     }
 
@@ -167,18 +167,18 @@ mod tests {
 
     #[test]
     fn writing_refuses_the_value_before_the_room() {
-        assert_eq!(write_integer(32768, &mut [], 0), Err(Refusal::OutOfRange));
-        assert_eq!(write_integer(-32769, &mut [], 0), Err(Refusal::OutOfRange));
+        assert_eq!(write_integer(32768, &mut [], 0), Err(Refusal::NotValid));
+        assert_eq!(write_integer(-32769, &mut [], 0), Err(Refusal::NotValid));
         assert_eq!(write_integer(0, &mut [], 0), Err(Refusal::TooShort));
-        assert_eq!(spell_count(257), Err(Refusal::OutOfRange));
+        assert_eq!(spell_count(257), Err(Refusal::NotValid));
     }
 
     #[test]
     fn counts_are_integers_from_0_to_256() {
         // 256 is 16 times 16, so 80 and then a low byte of four bits 0.
         assert_eq!(read_count(&[80, 48], 0).unwrap().value, 256);
-        assert_eq!(read_count(&[80, 49], 0), Err(Refusal::CountWrong.at(1)));
-        assert_eq!(read_count(&[33], 0), Err(Refusal::CountWrong.at(0)));
+        assert_eq!(read_count(&[80, 49], 0), Err(Refusal::CountOutside.at(1)));
+        assert_eq!(read_count(&[33], 0), Err(Refusal::CountOutside.at(0)));
         assert_eq!(read_count(&[32], 0).unwrap().value, 0);
     }
 
@@ -186,7 +186,7 @@ mod tests {
     fn an_integer_out_of_range_is_4_before_5() {
         assert_eq!(
             read_count(&[96, 64, 48], 0),
-            Err(Refusal::IntegerWrong.at(2))
+            Err(Refusal::IntegerOutside.at(2))
         );
     }
 }

@@ -15,7 +15,7 @@ pub enum Item {
         start: usize,
         command: Command,
     },
-    Refused {
+    RefusedCommand {
         start: usize,
         refused: ReadingRefused,
     },
@@ -25,7 +25,7 @@ impl Item {
     pub fn start(&self) -> usize {
         match self {
             Item::Text { place, .. } => *place,
-            Item::Command { start, .. } | Item::Refused { start, .. } => *start,
+            Item::Command { start, .. } | Item::RefusedCommand { start, .. } => *start,
         }
     }
 }
@@ -51,7 +51,7 @@ pub fn items_of(bytes: &[u8]) -> Vec<Item> {
             }
             // "The remembered point after a refused command is that before it."
             Err(refused) => {
-                items.push(Item::Refused { start, refused });
+                items.push(Item::RefusedCommand { start, refused });
                 place = next_escape(bytes, refused.place);
             }
         }
@@ -86,7 +86,7 @@ mod tests {
 
     fn refused(start: usize, refusal: Refusal, place: usize) -> Item {
         let refused = refusal.at(place);
-        Item::Refused { start, refused }
+        Item::RefusedCommand { start, refused }
     }
 
     #[test]
@@ -146,13 +146,13 @@ mod tests {
         );
         assert_eq!(
             items_of(b"\x1bKA@@@ABC"),
-            [refused(0, Refusal::IntegerWrong, 5)]
+            [refused(0, Refusal::IntegerOutside, 5)]
         );
         // A pair is none any more where a refused command has ended before it.
         assert_eq!(
             items_of(b"\x1bKA@@@\x1b?A"),
             [
-                refused(0, Refusal::IntegerWrong, 5),
+                refused(0, Refusal::IntegerOutside, 5),
                 refused(6, Refusal::UnknownCommand, 7),
             ]
         );
@@ -163,7 +163,7 @@ mod tests {
         assert_eq!(
             items_of(b"\x1bKA@@\x1b?A\x1bKA0"),
             [
-                refused(0, Refusal::IntegerWrong, 6),
+                refused(0, Refusal::IntegerOutside, 6),
                 one_value(8, b"KA", Value::Integer(0)),
             ]
         );

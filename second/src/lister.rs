@@ -38,7 +38,7 @@ fn line_of(item: &Item) -> String {
     match item {
         Item::Text { place, byte } => format!("T {place} {byte}"),
         Item::Command { start, command } => line_of_command(*start, command),
-        Item::Refused { start, refused } => line_of_refused(*start, *refused),
+        Item::RefusedCommand { start, refused } => line_of_refused(*start, *refused),
     }
 }
 

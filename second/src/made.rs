@@ -2,7 +2,7 @@
 
 use crate::commands::{spell_command, Command, Value};
 use crate::draws::Draws;
-use crate::forms::{Kind, FORMS};
+use crate::forms::{Parameter, FORMS};
 use crate::parameters::ESC;
 use crate::points::Point;
 
@@ -40,25 +40,25 @@ pub fn draw_command(draws: &mut Draws, remembered: Point) -> Command {
     Command {
         letters: form.letters,
         values: form
-            .kinds
+            .parameters
             .iter()
-            .map(|&kind| draw_value(kind, draws, remembered))
+            .map(|&parameter| draw_value(parameter, draws, remembered))
             .collect(),
     }
 }
 
-fn draw_value(kind: Kind, draws: &mut Draws, remembered: Point) -> Value {
-    match kind {
-        Kind::Integer => Value::Integer(draw_integer(draws)),
-        Kind::Point => Value::Point(draw_point(draws, remembered)),
-        Kind::Real => {
+fn draw_value(parameter: Parameter, draws: &mut Draws, remembered: Point) -> Value {
+    match parameter {
+        Parameter::Integer => Value::Integer(draw_integer(draws)),
+        Parameter::Point => Value::Point(draw_point(draws, remembered)),
+        Parameter::Real => {
             let mantissa = draw_integer(draws);
             let exponent = draw_integer(draws);
             Value::Real { mantissa, exponent }
         }
-        Kind::String => Value::String(draw_list(draws, draw_character)),
-        Kind::Array => Value::Array(draw_list(draws, draw_integer)),
-        Kind::Character => Value::Character(draw_character(draws)),
+        Parameter::String => Value::String(draw_list(draws, draw_character)),
+        Parameter::Array => Value::Array(draw_list(draws, draw_integer)),
+        Parameter::Character => Value::Character(draw_character(draws)),
     }
 }
 
@@ -129,7 +129,7 @@ mod tests {
             assert_eq!(commands.count(), 8);
             assert!(!items
                 .iter()
-                .any(|item| matches!(item, Item::Refused { .. })));
+                .any(|item| matches!(item, Item::RefusedCommand { .. })));
         }
     }
 

@@ -79,7 +79,7 @@ fn check_numbers(numbers: &[i32], entries: usize) -> Result<(), Refusal> {
     if in_range && entries <= MOST_ENTRIES {
         Ok(())
     } else {
-        Err(Refusal::OutOfRange)
+        Err(Refusal::NotValid)
     }
 }
 
@@ -89,7 +89,7 @@ fn stretches_of(n: usize, characters: &[i32], bits: usize) -> Result<Vec<Vec<u8>
     let ends = characters.iter().filter(|&character| is_end(character));
     let others = characters.len() - ends.count();
     if others != n.div_ceil(BITS_OF_A_CHARACTER / bits) {
-        return Err(Refusal::RasterWrong);
+        return Err(Refusal::RasterCharacters);
     }
     let mut left = n;
     let mut stretches = Vec::new();
@@ -109,7 +109,7 @@ fn colours_of(characters: &[i32], bits: usize) -> Result<Vec<u8>, Refusal> {
     let mut colours = Vec::new();
     for &character in characters {
         if !(32..=95).contains(&character) {
-            return Err(Refusal::RasterWrong);
+            return Err(Refusal::RasterCharacters);
         }
         let six_bits = (character - 32) as u8;
         let from_the_top = (0..in_character).rev();
@@ -217,22 +217,22 @@ mod tests {
         let mut bytes = [9; 6];
         let mut record = record_of(6);
         for (n, characters, refusal) in [
-            (-1, &[31][..], Refusal::OutOfRange),
-            (32768, &[], Refusal::OutOfRange),
-            (1, &[32; 257], Refusal::OutOfRange),
-            (257, &[32; 256], Refusal::RasterWrong),
-            (32767, &[32; 256], Refusal::RasterWrong),
-            (1, &[31], Refusal::RasterWrong),
-            (1, &[97], Refusal::RasterWrong),
-            (1, &[], Refusal::RasterWrong),
-            (0, &[32], Refusal::RasterWrong),
+            (-1, &[31][..], Refusal::NotValid),
+            (32768, &[], Refusal::NotValid),
+            (1, &[32; 257], Refusal::NotValid),
+            (257, &[32; 256], Refusal::RasterCharacters),
+            (32767, &[32; 256], Refusal::RasterCharacters),
+            (1, &[31], Refusal::RasterCharacters),
+            (1, &[97], Refusal::RasterCharacters),
+            (1, &[], Refusal::RasterCharacters),
+            (0, &[32], Refusal::RasterCharacters),
         ] {
             let answer = raster(&mut bytes, &mut record, n, characters);
             assert_eq!(answer, Err(refusal));
         }
         for codes in [&[-1][..], &[64, 32768], &[0; 257]] {
             let answer = runs(&mut bytes, &mut record, codes);
-            assert_eq!(answer, Err(Refusal::OutOfRange));
+            assert_eq!(answer, Err(Refusal::NotValid));
         }
         assert_eq!((bytes, record), ([9; 6], record_of(6)));
     }
@@ -245,7 +245,7 @@ mod tests {
         assert_eq!(without_bits, Err(Refusal::BitsNotSet));
         record.x = 3;
         let not_valid = runs(&mut bytes, &mut record, &[-1]);
-        assert_eq!(not_valid, Err(Refusal::OutOfRange));
+        assert_eq!(not_valid, Err(Refusal::NotValid));
         let too_few = runs(&mut bytes[..5], &mut record, &[-1]);
         assert_eq!(too_few, Err(Refusal::SurfaceSize));
     }

@@ -68,7 +68,7 @@ fn is_extra_or_lo_y(byte: u8) -> bool {
 /// Reads HiY, Extra, LoY, HiX and LoX, those left out being "those of the last point".
 pub fn read_point(bytes: &[u8], start: usize, remembered: Point) -> Reading<Point> {
     if !remembered.in_range() {
-        return Err(Refusal::OutOfRange.at(0));
+        return Err(Refusal::NotValid.at(0));
     }
     let mut parts = Parts::of(remembered);
     let mut byte = next_byte(bytes, start)?;
@@ -113,7 +113,7 @@ pub fn write_point(point: Point, remembered: Point, bytes: &mut [u8], place: usi
 /// "The writer leaves out all that it may."
 pub fn spell_point(point: Point, remembered: Point) -> Spelling {
     if !point.in_range() || !remembered.in_range() {
-        return Err(Refusal::OutOfRange);
+        return Err(Refusal::NotValid);
     }
     let new = Parts::of(point);
     let old = Parts::of(remembered);
@@ -218,10 +218,10 @@ mod tests {
         for (point, remembered) in [(OUTSIDE, ORIGIN), (ORIGIN, OUTSIDE)] {
             assert_eq!(
                 write_point(point, remembered, &mut [], 0),
-                Err(Refusal::OutOfRange)
+                Err(Refusal::NotValid)
             );
         }
-        assert_eq!(read_point(&[0], 5, OUTSIDE), Err(Refusal::OutOfRange.at(0)));
+        assert_eq!(read_point(&[0], 5, OUTSIDE), Err(Refusal::NotValid.at(0)));
     }
 
     #[test]

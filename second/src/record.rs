@@ -59,7 +59,7 @@ impl Record {
             2 => 2,
             3 => 3,
             6 => 6,
-            _ => return Err(Refusal::OutOfRange),
+            _ => return Err(Refusal::NotValid),
         };
         Ok(())
     }
@@ -68,7 +68,7 @@ impl Record {
     pub fn set_viewport(&mut self, size: Size, corners: [Point; 2]) -> Result<(), Refusal> {
         self.check(size)?;
         if !corners.iter().all(|&corner| size.holds(corner)) {
-            return Err(Refusal::OutOfRange);
+            return Err(Refusal::NotValid);
         }
         let [one, other] = corners;
         self.left = one.x.min(other.x) as usize;
@@ -84,7 +84,7 @@ impl Record {
         self.check(size)?;
         let (x, y) = (to.x as usize, to.y as usize);
         if !self.holds(x, y) {
-            return Err(Refusal::OutOfRange);
+            return Err(Refusal::NotValid);
         }
         (self.x, self.y) = (x, y);
         Ok(())
@@ -102,7 +102,7 @@ impl Record {
         if self.is_valid(size) {
             Ok(())
         } else {
-            Err(Refusal::OutOfRange)
+            Err(Refusal::NotValid)
         }
     }
 
@@ -217,7 +217,7 @@ mod tests {
                 assert_eq!(answer, Ok(()));
                 assert_eq!(record.bits as i32, bits);
             } else {
-                assert_eq!(answer, Err(Refusal::OutOfRange));
+                assert_eq!(answer, Err(Refusal::NotValid));
                 assert_eq!(record, fresh());
             }
         }
@@ -246,7 +246,7 @@ mod tests {
         for outside in [point(5, 0), point(0, 4)] {
             for corners in [[outside, point(0, 0)], [point(0, 0), outside]] {
                 let mut record = fresh();
-                assert_eq!(record.set_viewport(SIZE, corners), Err(Refusal::OutOfRange));
+                assert_eq!(record.set_viewport(SIZE, corners), Err(Refusal::NotValid));
                 assert_eq!(record, fresh());
             }
         }
@@ -261,7 +261,7 @@ mod tests {
         assert_eq!(record.set_beam(SIZE, point(3, 1)), Ok(()));
         assert_eq!([record.x, record.y], [3, 1]);
         for outside in [point(0, 1), point(4, 1), point(1, 0), point(1, 3)] {
-            assert_eq!(record.set_beam(SIZE, outside), Err(Refusal::OutOfRange));
+            assert_eq!(record.set_beam(SIZE, outside), Err(Refusal::NotValid));
             assert_eq!([record.x, record.y], [3, 1]);
         }
     }
@@ -310,7 +310,7 @@ mod tests {
         for wrong in wrongs {
             let mut record = fresh();
             wrong(&mut record);
-            assert_eq!(record.step(SIZE), Err(Refusal::OutOfRange));
+            assert_eq!(record.step(SIZE), Err(Refusal::NotValid));
             assert_eq!(record.step(Size { w: 0, h: 4 }), Err(Refusal::SurfaceSize));
         }
     }

@@ -22,7 +22,7 @@ fn byte_in(range: RangeInclusive<u8>, bytes: &[u8], place: usize) -> Result<u8, 
 /// "Three bytes, high bytes 32..95 less 32 times 1024 and 16, and a low byte 32..63."
 pub fn read_integer_report(bytes: &[u8], start: usize) -> Reading<i32> {
     if start > bytes.len() {
-        return Err(Refusal::OutOfRange.at(0));
+        return Err(Refusal::NotValid.at(0));
     }
     let first = byte_in(HIGH_BYTES, bytes, start)? - 32;
     let second = byte_in(HIGH_BYTES, bytes, start + 1)? - 32;
@@ -37,7 +37,7 @@ pub fn read_integer_report(bytes: &[u8], start: usize) -> Reading<i32> {
 
 pub fn write_integer_report(value: i32, bytes: &mut [u8], place: usize) -> Writing {
     if !(-GREATEST..=GREATEST).contains(&value) {
-        return Err(Refusal::OutOfRange);
+        return Err(Refusal::NotValid);
     }
     put(&spell_integer_report(value), bytes, place)
 }
@@ -55,7 +55,7 @@ fn spell_integer_report(value: i32) -> [u8; 3] {
 /// The list is changed only by a whole report that it has room for.
 pub fn read_string_report(bytes: &[u8], start: usize, list: &mut [i32]) -> Reading<usize> {
     let length = read_integer_report(bytes, start)?;
-    let count = count_from(length.value).ok_or(Refusal::CountWrong.at(length.last))? as usize;
+    let count = count_from(length.value).ok_or(Refusal::CountOutside.at(length.last))? as usize;
     let next = length.next + count;
     for place in length.next..next {
         byte_in(CHARACTERS, bytes, place)?;
@@ -74,11 +74,11 @@ pub fn read_string_report(bytes: &[u8], start: usize, list: &mut [i32]) -> Readi
 
 pub fn write_string_report(list: &[i32], bytes: &mut [u8], place: usize) -> Writing {
     if list.len() > MOST_CHARACTERS {
-        return Err(Refusal::OutOfRange);
+        return Err(Refusal::NotValid);
     }
     let mut spelling = spell_integer_report(list.len() as i32).to_vec();
     for &entry in list {
-        spelling.push(character_from(entry).ok_or(Refusal::OutOfRange)?);
+        spelling.push(character_from(entry).ok_or(Refusal::NotValid)?);
     }
     put(&spelling, bytes, place)
 }
@@ -120,11 +120,11 @@ mod tests {
 
     #[test]
     fn a_start_past_the_end_comes_first() {
-        assert_eq!(read_integer_report(&[0], 2), Err(Refusal::OutOfRange.at(0)));
+        assert_eq!(read_integer_report(&[0], 2), Err(Refusal::NotValid.at(0)));
         assert_eq!(read_integer_report(&[0], 1), Err(Refusal::BytesEnd.at(1)));
         assert_eq!(
             read_string_report(&[0], 2, &mut []),
-            Err(Refusal::OutOfRange.at(0))
+            Err(Refusal::NotValid.at(0))
         );
     }
 
@@ -148,7 +148,7 @@ mod tests {
         for value in [65536, -65536, i32::MAX, i32::MIN] {
             assert_eq!(
                 write_integer_report(value, &mut [], 0),
-                Err(Refusal::OutOfRange)
+                Err(Refusal::NotValid)
             );
         }
         let mut bytes = [255; 3];
@@ -180,8 +180,8 @@ mod tests {
     fn refused_string_reports_leave_the_list() {
         let cases: [(&[u8], ReadingRefused); 6] = [
             // 257 and -1 as lengths.
-            (&[32, 48, 49], Refusal::CountWrong.at(2)),
-            (&[32, 32, 33], Refusal::CountWrong.at(2)),
+            (&[32, 48, 49], Refusal::CountOutside.at(2)),
+            (&[32, 32, 33], Refusal::CountOutside.at(2)),
             (&[32, 32, 50, 72, 27], Refusal::ByteNotAllowed.at(4)),
             (&[32, 32, 50, 72, 128], Refusal::ByteNotAllowed.at(4)),
             (&[32, 32, 50, 72], Refusal::BytesEnd.at(4)),
@@ -199,12 +199,12 @@ mod tests {
         for entry in [31, 128, -1, 32 + 256] {
             assert_eq!(
                 write_string_report(&[entry], &mut [], 0),
-                Err(Refusal::OutOfRange)
+                Err(Refusal::NotValid)
             );
         }
         assert_eq!(
             write_string_report(&[32; 257], &mut [], 0),
-            Err(Refusal::OutOfRange)
+            Err(Refusal::NotValid)
         );
         assert_eq!(
             write_string_report(&[32; 256], &mut [0; 258], 0),

@@ -80,7 +80,7 @@ fn check_number(number: i32) -> Result<u32, Refusal> {
     if NUMBERS.contains(&number) {
         Ok(number as u32)
     } else {
-        Err(Refusal::OutOfRange)
+        Err(Refusal::NotValid)
     }
 }
 
@@ -90,7 +90,7 @@ fn body_of(contents: &[i32]) -> Result<Vec<u8>, Refusal> {
     if in_range && contents.len() <= MOST_CONTENTS {
         Ok(contents.iter().map(|&entry| entry as u8).collect())
     } else {
-        Err(Refusal::OutOfRange)
+        Err(Refusal::NotValid)
     }
 }
 
@@ -168,7 +168,7 @@ mod tests {
         assert_eq!(store[..4], [0, 3, 0, 127]);
         assert_eq!(find(&store, &[], 1), Ok(&[127; 256][..]));
         let too_many = define(&mut store, 1, &[127; 257]);
-        assert_eq!(too_many, Err(Refusal::OutOfRange));
+        assert_eq!(too_many, Err(Refusal::NotValid));
     }
 
     #[test]
@@ -211,11 +211,11 @@ mod tests {
     #[test]
     fn values_are_refused_before_the_room() {
         for number in [-1, 32768, 65541, i32::MIN, i32::MAX] {
-            assert_eq!(define(&mut [], number, &[1]), Err(Refusal::OutOfRange));
-            assert_eq!(find(&[], &[], number), Err(Refusal::OutOfRange));
+            assert_eq!(define(&mut [], number, &[1]), Err(Refusal::NotValid));
+            assert_eq!(find(&[], &[], number), Err(Refusal::NotValid));
         }
         for entry in [-1, 128, 256, i32::MIN, i32::MAX] {
-            assert_eq!(define(&mut [], 1, &[0, entry]), Err(Refusal::OutOfRange));
+            assert_eq!(define(&mut [], 1, &[0, entry]), Err(Refusal::NotValid));
         }
         assert_eq!(define(&mut [], 1, &[0]), Err(Refusal::StoreTooShort));
     }

@@ -48,17 +48,17 @@ impl Answer {
         let (number, item) = match *item {
             Item::Nothing => (0, [0; 7]),
             Item::Text { byte, next } => (0, [1, next, 0, byte.into(), 0, 0, 0]),
-            Item::Whole { command, next } => {
+            Item::Command { command, next } => {
                 values = command.values;
                 let [first, second] = command.letters.map(usize::from);
                 let kind = command.kind as usize;
                 (0, [2, next, 0, first, second, kind, command.entries])
             }
-            Item::Refused { trouble, next } => {
+            Item::RefusedCommand { trouble, next } => {
                 let item = [3, next, trouble.place, 0, 0, 0, 0];
                 (trouble.refusal.number(), item)
             }
-            Item::NotRead(trouble) => {
+            Item::Refused(trouble) => {
                 let item = [4, 0, trouble.place, 0, 0, 0, 0];
                 (trouble.refusal.number(), item)
             }

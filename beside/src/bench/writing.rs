@@ -61,7 +61,7 @@ fn commands_of(stream: &[u8]) -> Vec<Written> {
     let mut at = 0;
     loop {
         let item = next_item(stream, at, &mut point, &mut list);
-        if let Item::Whole { command, .. } = item {
+        if let Item::Command { command, .. } = item {
             commands.push(Written {
                 letters: command.letters,
                 values: command.values,

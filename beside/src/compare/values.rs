@@ -1,7 +1,7 @@
 //! Commands that can be written, drawn with a liking for the ends of each range.
 
 use second::commands::{Command, Value};
-use second::forms::{Kind, FORMS};
+use second::forms::{Parameter, FORMS};
 use second::points::Point;
 
 use super::draws::Draws;
@@ -61,27 +61,29 @@ fn draw_list<T>(draws: &mut Draws, draw_entry: fn(&mut Draws) -> T) -> Vec<T> {
     (0..count).map(|_| draw_entry(draws)).collect()
 }
 
-fn draw_value(draws: &mut Draws, kind: Kind, last: Point) -> Value {
-    match kind {
-        Kind::Integer => Value::Integer(draw_integer(draws)),
-        Kind::Point => Value::Point(draw_point(draws, last)),
-        Kind::Real => Value::Real {
+fn draw_value(draws: &mut Draws, parameter: Parameter, last: Point) -> Value {
+    match parameter {
+        Parameter::Integer => Value::Integer(draw_integer(draws)),
+        Parameter::Point => Value::Point(draw_point(draws, last)),
+        Parameter::Real => Value::Real {
             mantissa: draw_integer(draws),
             exponent: draw_integer(draws),
         },
-        Kind::String => Value::String(draw_list(draws, draw_character)),
-        Kind::Array => Value::Array(draw_list(draws, draw_integer)),
-        Kind::Character => Value::Character(draw_character(draws)),
+        Parameter::String => Value::String(draw_list(draws, draw_character)),
+        Parameter::Array => Value::Array(draw_list(draws, draw_integer)),
+        Parameter::Character => Value::Character(draw_character(draws)),
     }
 }
 
 /// Any of the 21 commands.
 pub fn draw_command(draws: &mut Draws, last: Point) -> Command {
     let form = &FORMS[draws.below(FORMS.len())];
-    let values = form.kinds.iter();
+    let values = form.parameters.iter();
     Command {
         letters: form.letters,
-        values: values.map(|&kind| draw_value(draws, kind, last)).collect(),
+        values: values
+            .map(|&parameter| draw_value(draws, parameter, last))
+            .collect(),
     }
 }
 

@@ -29,8 +29,8 @@ impl Reader<'_> {
             entries: 0,
         };
         match kind {
-            Kind::Point | Kind::TwoPoints => *point = self.points(&mut command, *point)?,
-            Kind::String | Kind::Array => {}
+            Kind::OnePoint | Kind::TwoPoints => *point = self.points(&mut command, *point)?,
+            Kind::AString | Kind::AnArray => {}
             _ => self.numbers(&mut command)?,
         }
         if let Some(entry) = kind.entries() {
@@ -69,7 +69,7 @@ impl Reader<'_> {
                 values[0] = self.character()?;
                 values[1] = self.character()?;
             }
-            Kind::TwoIntegers | Kind::Real => {
+            Kind::TwoIntegers | Kind::AReal => {
                 values[0] = self.integer()?;
                 values[1] = self.integer()?;
             }
@@ -88,7 +88,7 @@ impl Reader<'_> {
         let first = self.point(last)?;
         command.values[0] = i32::from(first.x);
         command.values[1] = i32::from(first.y);
-        if command.kind == Kind::Point {
+        if command.kind == Kind::OnePoint {
             return Ok(first);
         }
         let second = self.point(first)?;

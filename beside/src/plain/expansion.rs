@@ -92,12 +92,12 @@ impl Expander<'_> {
             let item = next_item(body, at, &mut self.point, &mut self.list);
             at = match item {
                 Item::Nothing => return Ok(()),
-                Item::Refused { .. } | Item::NotRead(_) => return Err(Refusal::BodyRefused),
-                Item::Whole { command, next } if command.letters == *b"KX" => {
+                Item::RefusedCommand { .. } | Item::Refused(_) => return Err(Refusal::BodyRefused),
+                Item::Command { command, next } if command.letters == *b"KX" => {
                     self.enter(command.values[0], depth)?;
                     next
                 }
-                Item::Text { next, .. } | Item::Whole { next, .. } => {
+                Item::Text { next, .. } | Item::Command { next, .. } => {
                     self.copy(&body[at..next]);
                     next
                 }

@@ -13,26 +13,26 @@ pub enum Item {
         byte: u8,
         next: usize,
     },
-    Whole {
+    Command {
         command: Command,
         next: usize,
     },
-    Refused {
+    RefusedCommand {
         trouble: Trouble,
         next: usize,
     },
     /// There is no item: 7 or 8.
-    NotRead(Trouble),
+    Refused(Trouble),
 }
 
 impl Item {
     /// Where the next item starts.
     pub fn next(&self) -> Option<usize> {
         match *self {
-            Item::Nothing | Item::NotRead(_) => None,
-            Item::Text { next, .. } | Item::Whole { next, .. } | Item::Refused { next, .. } => {
-                Some(next)
-            }
+            Item::Nothing | Item::Refused(_) => None,
+            Item::Text { next, .. }
+            | Item::Command { next, .. }
+            | Item::RefusedCommand { next, .. } => Some(next),
         }
     }
 }
@@ -40,7 +40,7 @@ impl Item {
 /// The item that starts at `start`. The point is then that behind the item.
 pub fn next_item(bytes: &[u8], start: usize, point: &mut Point, list: &mut [i32]) -> Item {
     if start > bytes.len() || !point.is_inside() {
-        return Item::NotRead(Trouble {
+        return Item::Refused(Trouble {
             refusal: Refusal::NotValid,
             place: 0,
         });
@@ -58,12 +58,12 @@ pub fn next_item(bytes: &[u8], start: usize, point: &mut Point, list: &mut [i32]
 fn command_item(bytes: &[u8], start: usize, point: &mut Point, list: &mut [i32]) -> Item {
     let mut reader = Reader { bytes, at: start };
     match reader.command(point, list) {
-        Ok(command) => Item::Whole {
+        Ok(command) => Item::Command {
             command,
             next: reader.at,
         },
-        Err(trouble) if trouble.refusal == Refusal::TooShort => Item::NotRead(trouble),
-        Err(trouble) => Item::Refused {
+        Err(trouble) if trouble.refusal == Refusal::TooShort => Item::Refused(trouble),
+        Err(trouble) => Item::RefusedCommand {
             trouble,
             next: next_escape(bytes, trouble.place),
         },
@@ -83,7 +83,7 @@ mod tests {
     use crate::plain::table::Kind;
 
     fn refused(refusal: Refusal, place: usize, next: usize) -> Item {
-        Item::Refused {
+        Item::RefusedCommand {
             trouble: Trouble { refusal, place },
             next,
         }
@@ -97,14 +97,14 @@ mod tests {
         assert_eq!(read(0), Item::Text { byte: 65, next: 1 });
         let move_to = Command {
             letters: *b"LF",
-            kind: Kind::Point,
+            kind: Kind::OnePoint,
             values: [0, 100, 0, 0],
             entries: 0,
         };
         let command = move_to;
-        assert_eq!(read(1), Item::Whole { command, next: 6 });
+        assert_eq!(read(1), Item::Command { command, next: 6 });
         assert_eq!(read(6), refused(Refusal::UnknownCommand, 8, 9));
-        assert!(matches!(read(9), Item::Whole { next: 13, .. }));
+        assert!(matches!(read(9), Item::Command { next: 13, .. }));
         assert_eq!(read(13), Item::Nothing);
         assert_eq!(point, Point { x: 0, y: 100 });
     }
@@ -116,7 +116,7 @@ mod tests {
         let item = next_item(&bytes, 0, &mut Point { x: 0, y: 0 }, &mut list);
         let place = 0;
         let refusal = Refusal::TooShort;
-        assert_eq!(item, Item::NotRead(Trouble { refusal, place }));
+        assert_eq!(item, Item::Refused(Trouble { refusal, place }));
         assert_eq!(list, [7]);
     }
 

@@ -3,14 +3,14 @@
 #[derive(Clone, Copy, Debug, PartialEq, Eq)]
 #[repr(u8)]
 pub enum Kind {
-    Integer = 1,
+    OneInteger = 1,
     TwoIntegers = 2,
     ThreeIntegers = 3,
-    Point = 4,
+    OnePoint = 4,
     TwoPoints = 5,
-    Real = 6,
-    String = 7,
-    Array = 8,
+    AReal = 6,
+    AString = 7,
+    AnArray = 8,
     IntegerThenArray = 9,
     IntegerThenString = 10,
     TwoCharacters = 11,
@@ -26,8 +26,8 @@ pub enum Entry {
 impl Kind {
     pub fn entries(self) -> Option<Entry> {
         match self {
-            Kind::String | Kind::IntegerThenString => Some(Entry::Character),
-            Kind::Array | Kind::IntegerThenArray => Some(Entry::Integer),
+            Kind::AString | Kind::IntegerThenString => Some(Entry::Character),
+            Kind::AnArray | Kind::IntegerThenArray => Some(Entry::Integer),
             _ => None,
         }
     }
@@ -40,14 +40,14 @@ pub fn begins_command(first: u8) -> bool {
 /// Document 01 prints NX; the table of document 000 has NL, and wins.
 pub fn kind_of(letters: [u8; 2]) -> Option<Kind> {
     match &letters {
-        b"KA" | b"KH" | b"KI" | b"KX" | b"LL" | b"LV" | b"NL" => Some(Kind::Integer),
+        b"KA" | b"KH" | b"KI" | b"KX" | b"LL" | b"LV" | b"NL" => Some(Kind::OneInteger),
         b"NR" => Some(Kind::TwoIntegers),
         b"RU" => Some(Kind::ThreeIntegers),
-        b"LF" | b"LG" | b"RH" => Some(Kind::Point),
+        b"LF" | b"LG" | b"RH" => Some(Kind::OnePoint),
         b"RS" => Some(Kind::TwoPoints),
-        b"MR" => Some(Kind::Real),
-        b"LT" => Some(Kind::String),
-        b"RD" | b"RL" => Some(Kind::Array),
+        b"MR" => Some(Kind::AReal),
+        b"LT" => Some(Kind::AString),
+        b"RD" | b"RL" => Some(Kind::AnArray),
         b"KD" | b"KO" => Some(Kind::IntegerThenArray),
         b"RP" => Some(Kind::IntegerThenString),
         b"IQ" => Some(Kind::TwoCharacters),

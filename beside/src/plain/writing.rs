@@ -83,10 +83,10 @@ fn spell_values(
     front: &mut Front,
 ) -> Result<Point, Refusal> {
     match kind {
-        Kind::Integer | Kind::IntegerThenArray | Kind::IntegerThenString => {
+        Kind::OneInteger | Kind::IntegerThenArray | Kind::IntegerThenString => {
             front.integer(values[0])?;
         }
-        Kind::TwoIntegers | Kind::Real => {
+        Kind::TwoIntegers | Kind::AReal => {
             front.integer(values[0])?;
             front.integer(values[1])?;
         }
@@ -95,7 +95,7 @@ fn spell_values(
             front.integer(values[1])?;
             front.integer(values[2])?;
         }
-        Kind::Point => return front.point(point, values[0], values[1]),
+        Kind::OnePoint => return front.point(point, values[0], values[1]),
         Kind::TwoPoints => {
             let first = front.point(point, values[0], values[1])?;
             return front.point(first, values[2], values[3]);
@@ -104,7 +104,7 @@ fn spell_values(
             front.character(values[0])?;
             front.character(values[1])?;
         }
-        Kind::String | Kind::Array => {}
+        Kind::AString | Kind::AnArray => {}
     }
     Ok(point)
 }

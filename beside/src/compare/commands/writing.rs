@@ -4,7 +4,7 @@ use std::fmt;
 
 use second::answers::{put, Refusal};
 use second::commands::{spell_command, Command, Value};
-use second::forms::{form_of, Kind};
+use second::forms::{form_of, Parameter};
 use second::points::Point;
 
 use crate::archive;
@@ -78,7 +78,7 @@ impl Writing {
     fn spelled(&self) -> Result<(Vec<u8>, [u16; 2]), Refusal> {
         let [x, y] = self.point.map(u32::from);
         let remembered = Point { x, y };
-        let command = self.command().ok_or(Refusal::OutOfRange)?;
+        let command = self.command().ok_or(Refusal::NotValid)?;
         let spelling = spell_command(&command, remembered)?;
         let last = command.last_point().unwrap_or(remembered);
         Ok((spelling, [last.x as u16, last.y as u16]))
@@ -92,21 +92,21 @@ impl Writing {
     fn command(&self) -> Option<Command> {
         let mut values = Vec::new();
         let mut numbers = self.values.iter().copied();
-        for kind in form_of(self.letters)?.kinds {
+        for parameter in form_of(self.letters)?.parameters {
             let mut next = || numbers.next().expect("no command has more than four");
-            values.push(match kind {
-                Kind::Integer => Value::Integer(next()),
-                Kind::Point => Value::Point(Point {
+            values.push(match parameter {
+                Parameter::Integer => Value::Integer(next()),
+                Parameter::Point => Value::Point(Point {
                     x: u32::try_from(next()).ok()?,
                     y: u32::try_from(next()).ok()?,
                 }),
-                Kind::Real => Value::Real {
+                Parameter::Real => Value::Real {
                     mantissa: next(),
                     exponent: next(),
                 },
-                Kind::Character => Value::Character(u8::try_from(next()).ok()?),
-                Kind::Array => Value::Array(self.list.clone()),
-                Kind::String => {
+                Parameter::Character => Value::Character(u8::try_from(next()).ok()?),
+                Parameter::Array => Value::Array(self.list.clone()),
+                Parameter::String => {
                     let characters = self.list.iter().map(|&entry| u8::try_from(entry).ok());
                     Value::String(characters.collect::<Option<Vec<u8>>>()?)
                 }

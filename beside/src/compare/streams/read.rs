@@ -4,7 +4,7 @@ use std::fmt;
 
 use second::answers::ReadingRefused;
 use second::commands::Command;
-use second::forms::{form_of, Kind};
+use second::forms::{form_of, Parameter};
 
 use crate::archive;
 use crate::compare::case::in_decimal;
@@ -13,8 +13,8 @@ use crate::compare::values::{four, numbers_and_list};
 
 const TEXT: usize = 1;
 const COMMAND: usize = 2;
-const REFUSED: usize = 3;
-const NOT_READ: usize = 4;
+const REFUSED_COMMAND: usize = 3;
+const REFUSED_CALL: usize = 4;
 
 #[derive(Clone, Debug, PartialEq)]
 pub struct Read {
@@ -64,13 +64,13 @@ impl Read {
     pub fn refused(&mut self, refused: ReadingRefused, next: usize) {
         self.none_left();
         self.number = refused.refusal.number() as u8;
-        self.item = [REFUSED, next, refused.place, 0, 0, 0, 0];
+        self.item = [REFUSED_COMMAND, next, refused.place, 0, 0, 0, 0];
     }
 
     pub fn not_read(&mut self, number: u8, place: usize) {
         self.none_left();
         self.number = number;
-        self.item = [NOT_READ, 0, place, 0, 0, 0, 0];
+        self.item = [REFUSED_CALL, 0, place, 0, 0, 0, 0];
     }
 
     /// A whole command, or 7 where the lent list is too short for its entries.
@@ -93,9 +93,9 @@ impl Read {
 
 /// The header's number of the kind of a command's parameters.
 fn kind_number(command: &Command) -> usize {
-    use Kind::{Array, Character, Integer, Point, Real, String};
+    use Parameter::{Array, Character, Integer, Point, Real, String};
     let form = form_of(command.letters).expect("a command that was read is in the table");
-    match form.kinds {
+    match form.parameters {
         [Integer] => 1,
         [Integer, Integer] => 2,
         [Integer, Integer, Integer] => 3,

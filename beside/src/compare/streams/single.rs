@@ -4,7 +4,7 @@ use std::fmt;
 
 use second::answers::Refusal;
 use second::commands::read_command;
-use second::forms::{form_of, Kind};
+use second::forms::{form_of, Parameter};
 use second::integers::{read_count, read_integer};
 use second::parameters::ESC;
 use second::points::Point;
@@ -123,9 +123,9 @@ impl Single {
     fn place_of_count(&self) -> Option<usize> {
         let letters = self.bytes.get(self.start + 1..self.start + 3)?;
         let form = form_of([letters[0], letters[1]])?;
-        match form.kinds {
-            [Kind::String | Kind::Array] => Some(self.start + 3),
-            [Kind::Integer, Kind::String | Kind::Array] => {
+        match form.parameters {
+            [Parameter::String | Parameter::Array] => Some(self.start + 3),
+            [Parameter::Integer, Parameter::String | Parameter::Array] => {
                 let integer = read_integer(&self.bytes, self.start + 3);
                 integer.ok().map(|integer| integer.next)
             }
@@ -138,7 +138,7 @@ impl Single {
     fn is_outside_at_low_byte(&self, place: usize) -> bool {
         read_integer(&self.bytes, place).is_err_and(|refused| {
             let place = refused.place;
-            refused.refusal == Refusal::IntegerWrong
+            refused.refusal == Refusal::IntegerOutside
                 && self.bytes[place] < 64
                 && self.bytes[place - 1] != ESC
         })

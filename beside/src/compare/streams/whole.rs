@@ -52,7 +52,7 @@ fn take(read: &mut Read, item: &Item, next: usize) {
     match item {
         Item::Text { byte, .. } => read.text(*byte, next),
         Item::Command { start, command } => read.command(command, *start, next),
-        Item::Refused { refused, .. } => read.refused(*refused, next),
+        Item::RefusedCommand { refused, .. } => read.refused(*refused, next),
     }
 }
 
