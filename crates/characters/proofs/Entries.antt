@@ -13,7 +13,7 @@ use mir.Facts.{toZ-ofZ}
 use Rattle.refusals.specs.Answers.{every}
 use Rattle.refusals.proofs.Many.{every-split}
 use Rattle.wire.specs.Sending.{inRoom}
-use Rattle.wire.proofs.Laying.{Laying, laying-none, laying-more, laying-end}
+use Rattle.wire.proofs.Writings.{Copying, copying-none, copying-more, copying-end}
 use Rattle.ranges.specs.Ranges.{within}
 use Rattle.ranges.proofs.Entries.{within-range}
 use Rattle.characters.specs.Characters.{asBytes, lowBytes}
@@ -42,16 +42,16 @@ low-at [] i = refl
 low-at (v ∷ list) zero = refl
 low-at (v ∷ list) (suc i) = low-at list i
 
-module _ (list : List ℤ) (out₀ out : List ℕ) (at i : ℕ) {count : ℕ} (f : Laying (lowBytes list) out₀ out at i) (e : count ≡ inRoom (length list) (length out₀) at) where
+module _ (list : List ℤ) (out₀ out : List ℕ) (at i : ℕ) {count : ℕ} (f : Copying (lowBytes list) out₀ out at i) (e : count ≡ inRoom (length list) (length out₀) at) where
   many : count ≡ inRoom (length (lowBytes list)) (length out₀) at
   many = e ∙ rw (low-long list)
 
-  pub entry-laid : (v x : ℤ) {b : ℕ} → i < count → v ≡ getD list i (pos 0) → b ≡ natAbs x % 256 → x ≡ v → Laying (lowBytes list) out₀ (set out (at + i) b) at (i + 1)
-  entry-laid v x {b} h ev eb j =
+  pub entry-copied : (v x : ℤ) {b : ℕ} → i < count → v ≡ getD list i (pos 0) → b ≡ natAbs x % 256 → x ≡ v → Copying (lowBytes list) out₀ (set out (at + i) b) at (i + 1)
+  entry-copied v x {b} h ev eb j =
       let k : b ≡ getD (lowBytes list) i 0 = eb ∙ ap (λ (y : ℤ). natAbs y % 256) (j ∙ ev) ∙ sym (low-at list i) in
-      rw (← k) at (laying-more (lowBytes list) out₀ out at i f many h)
+      rw (← k) at (copying-more (lowBytes list) out₀ out at i f many h)
 
-  pub entries-laid : count ≤ i → out ≡ sets out₀ at (lowBytes list)
-  entries-laid h = laying-end (lowBytes list) out₀ out at i f many h
+  pub entries-copied : count ≤ i → out ≡ sets out₀ at (lowBytes list)
+  entries-copied h = copying-end (lowBytes list) out₀ out at i f many h
 
-pub ruleset entering = (laying-none, entry-laid, entries-laid)
+pub ruleset entering = (copying-none, entry-copied, entries-copied)

@@ -28,7 +28,7 @@ put n body es = below n es ++ (one n body ++ above n es)
 
 -- ---- defining
 
--- "Numbers 0..32767, contents 0..127, at most 256 of them, else 8."
+-- "Numbers 0..32767 (house rule), contents 0..127, at most 256 of them, else 8."
 unfoldable pub mayDefine : Layout → ℤ → List ℤ → Bool
 mayDefine L n contents = isMacroNumber n && (leb (length contents) (L .longest) && every (within 0 127) contents)
 

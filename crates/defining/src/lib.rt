@@ -136,7 +136,7 @@ fn rewrite(store: &mut [u8], gap: Gap, number: usize, contents: &[i32]) -> bool
     true
 }
 
-// "Numbers 0..32767, contents 0..127, at most 256 of them."
+// "Numbers 0..32767 (house rule), contents 0..127, at most 256 of them, else 8."
 fn may_define(number: i32, contents: &[i32]) -> bool
     ensures { λ r. ⌜ r ≡ mayDefine threeBytes number (now (contents .entry)) ⌝ }
 {

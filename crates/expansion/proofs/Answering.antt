@@ -96,7 +96,7 @@ module _ (volatile saved : List ℕ) (number : ℤ) (f : SFits w32 number) (r : 
       done-out ran =
           let z : 0 + length ((started volatile saved number) .bytes) ≡ length ((started volatile saved number) .bytes) = omega arith in
           let w : Ran (started volatile saved number) 0 out _ _ = rw (toZ-ofZ f) at ran in
-          w .laid ∙ sets-eq ((started volatile saved number) .bytes) out 0 (omega (arith, h, length-is)) ∙ rw (none, z)
+          w .stands ∙ sets-eq ((started volatile saved number) .bytes) out 0 (omega (arith, h, length-is)) ∙ rw (none, z)
 
 -- ---- the start
 

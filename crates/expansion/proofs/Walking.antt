@@ -55,16 +55,16 @@ ran-given bs c at out₀ out out′ r e w =
     let z : at + length bs + length (c .bytes) ≡ at + length (bs ++ c .bytes) = rw (length-append bs (c .bytes)) (omega arith) in
     record {
       told = w .told ∙ ap (λ (k : ℕ). pick (eqb (c .number) 0) (on (record { at = k; entered = c .entered; kept = c .kept })) (refused (c .number))) z;
-      laid = w .laid ∙ ap (λ (l : List ℕ). sets l (at + length bs) (c .bytes)) e ∙ sets-append bs (c .bytes) out₀ at;
+      stands = w .stands ∙ ap (λ (l : List ℕ). sets l (at + length bs) (c .bytes)) e ∙ sets-append bs (c .bytes) out₀ at;
     }
 
 pub ran-none : (going : Going) (out : List ℕ) → Ran (gives [] (going .entered) (going .kept)) (going .at) out out (Step.On going)
 unfolding stepOf reachedBy
-ran-none going out = let z : going .at ≡ going .at + 0 = omega arith in record { told = ap (λ (k : ℕ). on (record { at = k; entered = going .entered; kept = going .kept })) z; laid = refl }
+ran-none going out = let z : going .at ≡ going .at + 0 = omega arith in record { told = ap (λ (k : ℕ). on (record { at = k; entered = going .entered; kept = going .kept })) z; stands = refl }
 
 pub ran-stops : (x : Refusal) (at n : ℕ) (kept : Remembered) (out : List ℕ) → Ran (stops (numberOf x) n kept) at out out (Step.Refused x)
 unfolding stepOf reachedBy
-ran-stops x at n kept out = record { told = rw (not-nought x); laid = refl }
+ran-stops x at n kept out = record { told = rw (not-nought x); stands = refl }
 
 -- ---- the loop
 
@@ -72,7 +72,7 @@ pub record Walking (volatile saved : List ℕ) (d : ℕ) (body : List ℕ) (from
   pub few : going .entered ≤ 1024
   pub given : List ℕ
   pub here : going .at ≡ from .at + length given
-  pub laid : out ≡ sets out₀ (from .at) given
+  pub stands : out ≡ sets out₀ (from .at) given
   pub cap : length given + (length body - i) + 256 * (1024 - going .entered) ≤ length body + 256 * (1024 - from .entered)
   pub whole : front given (walked (callStretch volatile saved d) (length body - i + 1) body i (going .kept) (going .entered)) ≡ bodyStretch volatile saved d body (from .kept) (from .entered)
 
@@ -85,23 +85,23 @@ module _ (volatile saved : List ℕ) (d : ℕ) (body : List ℕ) (from : Going) 
         few = r .few;
         given = [];
         here = omega arith;
-        laid = refl;
+        stands = refl;
         cap = omega arith;
         whole = ap (λ (k : ℕ). walked (callStretch volatile saved d) (k + 1) body 0 (from .kept) (from .entered)) z;
       }
 
   module _ {going : Going} {i : ℕ} {out : List ℕ} (w : Walking volatile saved d body from out₀ going i out) where
     pub same-long : length out ≡ length out₀
-    same-long = ap length (w .laid) ∙ length-sets out₀ (from .at) (w .given)
+    same-long = ap length (w .stands) ∙ length-sets out₀ (from .at) (w .given)
 
     pub same-ran : {c : Stretch} {at : ℕ} {out′ : List ℕ} {r : Step} → Ran c at out out′ r → length out′ ≡ length out₀
-    same-ran {c = c} {at = at} ran = ap length (ran .laid) ∙ length-sets out at (c .bytes) ∙ same-long
+    same-ran {c = c} {at = at} ran = ap length (ran .stands) ∙ length-sets out at (c .bytes) ∙ same-long
 
     -- what is run from here is run behind what is given
     ends : (c : Stretch) {out′ : List ℕ} {r : Step} → walked (callStretch volatile saved d) (length body - i + 1) body i (going .kept) (going .entered) ≡ c → Ran c (going .at) out out′ r → Ran (bodyStretch volatile saved d body (from .kept) (from .entered)) (from .at) out₀ out′ r
     ends c {out′ = out′} {r = r} e ran =
         subst (λ (x : Stretch). Ran x (from .at) out₀ out′ r) (ap (front (w .given)) (sym e) ∙ w .whole)
-        (ran-given (w .given) c (from .at) out₀ out out′ r (w .laid) (subst (λ (k : ℕ). Ran c k out out′ r) (w .here) ran))
+        (ran-given (w .given) c (from .at) out₀ out out′ r (w .stands) (subst (λ (k : ℕ). Ran c k out out′ r) (w .here) ran))
 
     module _ {p : Piece} (ep : p ≡ pieceAt (going .kept) body i) where
       here-is : {q : Piece} → p ≡ q → walked (callStretch volatile saved d) (length body - i + 1) body i (going .kept) (going .entered) ≡ onPiece (callStretch volatile saved d) (walked (callStretch volatile saved d) (length body - i) body) body i (going .kept) (going .entered) q
@@ -112,19 +112,19 @@ module _ (volatile saved : List ℕ) (d : ℕ) (body : List ℕ) (from : Going) 
       pub walked-end : p ≡ Piece.End → Ran (bodyStretch volatile saved d body (from .kept) (from .entered)) (from .at) out₀ out (Step.On going)
       walked-end e = ends _ (here-is e) (ran-none going out)
 
-      pub walked-broken : p ≡ Piece.Refused → Ran (bodyStretch volatile saved d body (from .kept) (from .entered)) (from .at) out₀ out (Step.Refused BodyRefused)
-      walked-broken e = ends _ (here-is e) (ran-stops BodyRefused (going .at) (going .entered) (going .kept) out)
+      pub walked-refused : p ≡ Piece.Refused → Ran (bodyStretch volatile saved d body (from .kept) (from .entered)) (from .at) out₀ out (Step.Refused BodyRefused)
+      walked-refused e = ends _ (here-is e) (ran-stops BodyRefused (going .at) (going .entered) (going .kept) out)
 
       -- what is left behind the piece, with the fuel for it
       onward : (bs : List ℕ) (next : ℕ) (after : Going) {out′ : List ℕ} → (i < next) × (next ≤ length body) → walked (callStretch volatile saved d) (length body - i + 1) body i (going .kept) (going .entered) ≡ front bs (walked (callStretch volatile saved d) (length body - i) body next (after .kept) (after .entered)) → after .at ≡ going .at + length bs → after .entered ≤ 1024 → length bs + 256 * (1024 - after .entered) ≤ next - i + 256 * (1024 - going .entered) → out′ ≡ sets out (going .at) bs → Walking volatile saved d body from out₀ after next out′
-      onward bs next after {out′ = out′} h e at few cap laid =
+      onward bs next after {out′ = out′} h e at few cap stands =
           let la = length-append (w .given) bs in
           let fuel = fuel-enough (callStretch volatile saved d) body (length body - i) (length body - next + 1) next (after .kept) (after .entered) (omega (arith, h .0, h .1)) (omega arith) in
           record {
             few = few;
             given = w .given ++ bs;
             here = omega (arith, at, w .here, la);
-            laid = laid ∙ ap (λ (l : List ℕ). sets l (going .at) bs) (w .laid) ∙ ap (λ (k : ℕ). sets (sets out₀ (from .at) (w .given)) k bs) (w .here) ∙ sets-append (w .given) bs out₀ (from .at);
+            stands = stands ∙ ap (λ (l : List ℕ). sets l (going .at) bs) (w .stands) ∙ ap (λ (k : ℕ). sets (sets out₀ (from .at) (w .given)) k bs) (w .here) ∙ sets-append (w .given) bs out₀ (from .at);
             cap = omega (arith, w .cap, cap, la, h .0, h .1);
             whole = sym (front-front (w .given) bs _) ∙ ap (λ (x : Stretch). front (w .given) (front bs x)) (sym fuel) ∙ ap (front (w .given)) (sym e) ∙ w .whole;
           }
@@ -146,10 +146,10 @@ module _ (volatile saved : List ℕ) (d : ℕ) (body : List ℕ) (from : Going) 
         copied-counts r = let h = copied-within in omega (arith, h .0, h .1, w .here, w .cap, r .fits)
 
         pub walking-copied : {out′ : List ℕ} → out′ ≡ sets out (going .at) (itemBytes i next body) → Walking volatile saved d body from out₀ (record { at = going .at + (next - i); entered = going .entered; kept = after }) next out′
-        walking-copied laid =
+        walking-copied stands =
             let h = copied-within in
             let l = item-long i next body (h .1) in
-            onward (itemBytes i next body) next (record { at = going .at + (next - i); entered = going .entered; kept = after }) h (here-is g) (omega (arith, l)) (w .few) (omega (arith, l)) laid
+            onward (itemBytes i next body) next (record { at = going .at + (next - i); entered = going .entered; kept = after }) h (here-is g) (omega (arith, l)) (w .few) (omega (arith, l)) stands
 
       module _ {number : ℤ} {next : ℕ} {after : Remembered} (g : p ≡ Piece.Called number next after) where
         called-within : (i < next) × (next ≤ length body)
@@ -177,7 +177,7 @@ module _ (volatile saved : List ℕ) (d : ℕ) (body : List ℕ) (from : Going) 
               let into : Going = record { at = going .at + length (called .bytes); entered = called .entered; kept = called .kept } in
               let step : andThen called (walked (callStretch volatile saved d) (length body - i) body next) ≡ front (called .bytes) (walked (callStretch volatile saved d) (length body - i) body next (called .kept) (called .entered)) = rw (q .0) in
               subst (λ (x : Going). Walking volatile saved d body from out₀ x next out′) (sym (q .1))
-              (onward (called .bytes) next into called-within (here-is g ∙ step) refl (small .few) (omega (arith, small .cap)) (ran-called .laid))
+              (onward (called .bytes) next into called-within (here-is g ∙ step) refl (small .few) (omega (arith, small .cap)) (ran-called .stands))
 
           pub walked-refused : {x : Refusal} → r ≡ Step.Refused x → Ran (bodyStretch volatile saved d body (from .kept) (from .entered)) (from .at) out₀ out′ (Step.Refused x)
           unfolding called

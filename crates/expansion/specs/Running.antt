@@ -22,4 +22,4 @@ pub record Roomy (from : Going) (left : ℕ) : Type 0 where
 -- a stretch was written from a place on, as far as there was room
 pub record Ran (c : Stretch) (at : ℕ) (out out′ : List ℕ) (r : Step) : Type 0 where
   pub told : stepOf r ≡ reachedBy at c
-  pub laid : out′ ≡ sets out at (c .bytes)
+  pub stands : out′ ≡ sets out at (c .bytes)

@@ -1,9 +1,10 @@
--- Two conforming answers of `look_at` coincide: values and tail fix the parameters.
+-- Two conforming answers of `look_at` coincide: values and tail fix the parameters. So do two of `numbers_of`.
 use Prim.Native.Nat.{ℕ, _+_, _*_}
 use mathlib.Core.Path.{_≡_, refl, sym, _∙_, ap}
 use mathlib.Core.List.{List, [], _∷_}
 use lib.Dec.{eqb}
-use lib.ListN.{getD}
+use lib.ListN.{getD, length}
+use lib.Seq.{length-take-le}
 use lib.IntN.{ℤ, pos}
 use Rattle.memory.specs.declared.Point.{Point}
 use Rattle.refusals.specs.Answers.{Answer, done, refused, pick}
@@ -16,6 +17,8 @@ use Rattle.parameters.specs.declared.ParametersRead.the-variants.{Whole}
 use Rattle.parameters.specs.declared.Tail.{Tail}
 use Rattle.parameters.specs.declared.Tail.the-variants.{NoList, ListOf}
 use Rattle.parameters.specs.Shapes.{Value, number, scaled, place, valuesOf, tailOf}
+use Rattle.parameters.specs.declared.Numbers.{Numbers}
+use Rattle.parameters.specs.Numbers.{Holds, numbersOf}
 use Rattle.parameters.specs.Looking.{Parsed, lookOf}
 
 -- a number for each kind of values, by which they are told apart
@@ -95,3 +98,16 @@ look-same (ParametersRead.Refused e p) = ap (λ x. ParametersRead.Refused x p) (
 
 pub looks-coincide : {x y : ParametersRead} {d : Answer Parsed} → lookOf x ≡ d → lookOf y ≡ d → x ≡ y
 looks-coincide = coincide lookOf look-back look-same
+
+-- ---- numbers_of
+
+-- how many numbers there are is how many the values have
+held-long : (vs : List Value) (r : Numbers) → Holds vs r → r .len ≡ length (numbersOf vs)
+held-long vs r h = sym (length-take-le (r .len) (r .values) (h .within)) ∙ ap (λ (l : List ℤ). length l) (h .same)
+
+numbers-by : (a b : List ℤ) (m n : ℕ) → a ≡ b → m ≡ n → _≡_ {A = Numbers} (record { values = a; len = m }) (record { values = b; len = n })
+numbers-by a b m n e f = rw (e, f)
+
+pub numbers-coincide : (vs : List Value) (x y : Numbers) → Holds vs x → Holds vs y → x ≡ y
+numbers-coincide vs x y h k =
+    numbers-by (x .values) (y .values) (x .len) (y .len) (h .four ∙ sym (k .four)) (held-long vs x h ∙ sym (held-long vs y k))

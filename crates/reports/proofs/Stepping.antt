@@ -113,9 +113,9 @@ module _ (k : ℕ) (s : List ℕ) (at : ℕ) {q : Answer ℕ} where
     pub run-more : {b : TakenByte} → r ≡ ByteRead.Byte b → charactersEnd (k - 1) s (b .next) ≡ q
     run-more g = passed-one (byteWithin 32 127 s) k at (given 32 127 s at e g) h j
 
-    pub run-broken : {x : Refusal} {p : ℕ} → r ≡ ByteRead.Refused x p → runEndOf (RunEnd.Refused x p) ≡ q
+    pub run-refused : {x : Refusal} {p : ℕ} → r ≡ ByteRead.Refused x p → runEndOf (RunEnd.Refused x p) ≡ q
     unfolding byteOf runEndOf
-    run-broken g = passed-none (byteWithin 32 127 s) k at (sym e ∙ rw g) h j
+    run-refused g = passed-none (byteWithin 32 127 s) k at (sym e ∙ rw g) h j
 
 -- where a run ends, and that it stays byteWithin
 Ends : List ℕ → ℕ → ℕ → ℕ → Type 0
@@ -189,9 +189,9 @@ module _ (s : List ℕ) (at : ℕ) {i : Answer (Read ℤ)} (c : CountRead) (ei :
     next-three = done-of (λ (r : Read ℕ). (r .next ≡ at + 3) × (at + 3 ≤ length s)) (behind 256 (λ m. (m ≡ at + 3) × (at + 3 ≤ length s)) (reportAt s at) (three s at)) found
 
     module _ {e : RunEnd} (ee : runEndOf e ≡ charactersEnd (t .value) s (t .next)) where
-      pub string-broken : (room : ℕ) {x : Refusal} {q : ℕ} → e ≡ RunEnd.Refused x q → stringOf (StringRead.Refused x q) ≡ stringAt s at room
+      pub characters-refused : (room : ℕ) {x : Refusal} {q : ℕ} → e ≡ RunEnd.Refused x q → stringOf (StringRead.Refused x q) ≡ stringAt s at room
       unfolding stringAt stringOf runEndOf
-      string-broken room h = rw (found, ← ee, h)
+      characters-refused room h = rw (found, ← ee, h)
 
       module _ {m : ℕ} (h : e ≡ RunEnd.End m) where
         pub string-short : (room : ℕ) → room < t .value → stringOf (StringRead.Refused TooShort at) ≡ stringAt s at room

@@ -90,17 +90,17 @@ wrong-in-room =
     ∷ but (inRoom 2 2 1 ∷ []) (2 ∷ [])
     ∷ []
 
-abbrev laying : List ℕ → List ℕ → ℕ → List ℕ → Wrong
-laying w out start wrong = but (writingOf (writeAt w (length out) start) (afterWrite (writeAt w (length out) start) w out start)) wrong
+abbrev bytes-written : List ℕ → List ℕ → ℕ → List ℕ → Wrong
+bytes-written w out start wrong = but (writingOf (writeAt w (length out) start) (afterWrite (writeAt w (length out) start) w out start)) wrong
 
 abbrev pub wrong-write-bytes : List Wrong
 wrong-write-bytes =
     -- "A refused call leaves .. output bytes as they were on entry": none is written and then refused
-    laying (1 ∷ []) (9 ∷ 9 ∷ []) 1 (7 ∷ 0 ∷ 9 ∷ 1 ∷ [])
+    bytes-written (1 ∷ 2 ∷ []) (9 ∷ 9 ∷ []) 1 (7 ∷ 0 ∷ 9 ∷ 1 ∷ [])
     -- "Beyond the result a lent list or output is unchanged": the bytes go where they were asked for
-    ∷ laying (1 ∷ []) (9 ∷ 9 ∷ []) 1 (0 ∷ 2 ∷ 1 ∷ 9 ∷ [])
+    ∷ bytes-written (1 ∷ []) (9 ∷ 9 ∷ []) 1 (0 ∷ 2 ∷ 1 ∷ 9 ∷ [])
     -- each byte goes to its own place
-    ∷ laying (1 ∷ 2 ∷ []) (9 ∷ 9 ∷ 9 ∷ []) 1 (0 ∷ 3 ∷ 9 ∷ 1 ∷ 1 ∷ [])
+    ∷ bytes-written (1 ∷ 2 ∷ []) (9 ∷ 9 ∷ 9 ∷ []) 1 (0 ∷ 3 ∷ 9 ∷ 1 ∷ 1 ∷ [])
     ∷ []
 
 -- bytes poured from a place on: how many they are, and the output

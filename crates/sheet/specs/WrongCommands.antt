@@ -25,7 +25,7 @@ use Rattle.commands.specs.declared.Command.{Command}
 use Rattle.commands.specs.Reading.{ToldCommand, commandAt, told, afterEntries}
 use Rattle.writable.specs.Writable.{kindFor, kindNumber, fits, isCommand}
 use Rattle.writing.specs.Writing.{afterValues, spellCommand, writeFitting, writeCommand}
-use Rattle.parameters.specs.Numbers.{numbersOf}
+use Rattle.parameters.specs.Numbers.{numbersOf, fourOf}
 use Rattle.sheet.specs.Rows.{Wrong, but, joined, truth, signsOf, at, point-is, writingOf}
 
 -- ---- table
@@ -107,6 +107,8 @@ wrong-numbers-of =
     but (signsOf (numbersOf (valuesOf (P.AReal (record { mantissa = pos 3; exponent = negsuc 1 }))))) (1 ∷ 2 ∷ 0 ∷ 3 ∷ [])
     ∷ but (signsOf (numbersOf (valuesOf (P.OnePoint (at 1 2))))) (0 ∷ 2 ∷ 0 ∷ 1 ∷ [])
     ∷ but (signsOf (numbersOf (valuesOf P.AString))) (0 ∷ 0 ∷ [])
+    -- and 0 in what is left of four
+    ∷ but (signsOf (fourOf (valuesOf (P.OneInteger (pos 5))))) (0 ∷ 5 ∷ 0 ∷ 5 ∷ 0 ∷ 0 ∷ 0 ∷ 0 ∷ [])
     ∷ []
 
 -- ---- commands
@@ -187,7 +189,9 @@ writing c es out wrong =
 abbrev pub wrong-write-command : List Wrong
 wrong-write-command =
     -- "No spelling that reads as that command from that point is shorter"
-    writing (with-letters 75 65 (P.OneInteger (pos 0))) [] (9 ∷ 9 ∷ 9 ∷ 9 ∷ 9 ∷ []) (0 ∷ 5 ∷ 27 ∷ 75 ∷ 65 ∷ 48 ∷ 0 ∷ [])
+    writing (with-letters 75 65 (P.OneInteger (pos 0))) [] (9 ∷ 9 ∷ 9 ∷ 9 ∷ 9 ∷ []) (0 ∷ 5 ∷ 27 ∷ 75 ∷ 65 ∷ 64 ∷ 48 ∷ [])
+    -- "A refused call leaves .. output bytes as they were on entry"
+    ∷ writing (with-letters 75 65 (P.OneInteger (pos 0))) [] (9 ∷ 9 ∷ 9 ∷ []) (7 ∷ 0 ∷ 27 ∷ 75 ∷ 65 ∷ [])
     -- "A command is ESC (27), two capital letters, then its parameters"
     ∷ writing (with-letters 75 65 (P.OneInteger (pos 0))) [] (9 ∷ 9 ∷ 9 ∷ 9 ∷ []) (0 ∷ 4 ∷ 27 ∷ 65 ∷ 75 ∷ 48 ∷ [])
     -- "A string is a count and that many bytes": the characters stand behind their count

@@ -52,7 +52,7 @@ wrong-read-item =
     -- "A refused command ends at its place": not at its own ESC
     ∷ item freshMemory (27 ∷ 90 ∷ []) [] (3 ∷ 2 ∷ 1 ∷ 0 ∷ 0 ∷ 0 ∷ [])
     -- "The remembered point after a refused command is that before it": it is not moved
-    ∷ item (from 5 6) (27 ∷ 90 ∷ []) [] (3 ∷ 2 ∷ 1 ∷ 2 ∷ 0 ∷ 6 ∷ [])
+    ∷ item (from 5 6) (27 ∷ 90 ∷ []) [] (3 ∷ 2 ∷ 1 ∷ 2 ∷ 0 ∷ 0 ∷ [])
     -- "Keeping the remembered point from a refused command": RS, of which the second corner is cut
     ∷ item freshMemory (27 ∷ 82 ∷ 83 ∷ 96 ∷ 33 ∷ 64 ∷ 48 ∷ []) [] (3 ∷ 1 ∷ 7 ∷ 7 ∷ 128 ∷ 0 ∷ [])
     -- the remembered point goes on with a command

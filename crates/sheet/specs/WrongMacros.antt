@@ -34,18 +34,19 @@ wrong-is-well-formed =
     ∷ but (truth (wellFormed threeBytes longest)) (0 ∷ [])
     ∷ []
 
--- where an entry begins or would begin, where it ends, and where the entries end
+-- 1 for a store that is well formed; where an entry begins or would begin, where it ends, and where the entries end
 abbrev surveyed : List ℕ → ℕ → List ℕ
-surveyed s n = sizeOf threeBytes (below n (entries threeBytes s)) ∷ sizeOf threeBytes (below (suc n) (entries threeBytes s)) ∷ sizeOf threeBytes (entries threeBytes s) ∷ []
+surveyed s n = truth (wellFormed threeBytes s) ++ (sizeOf threeBytes (below n (entries threeBytes s)) ∷ sizeOf threeBytes (below (suc n) (entries threeBytes s)) ∷ sizeOf threeBytes (entries threeBytes s) ∷ [])
 
 abbrev pub wrong-inspect : List Wrong
 wrong-inspect =
     -- "entries in rising macro number": a macro that is there, one that would stand before it, one behind it
-    but (surveyed five 5) (0 ∷ 0 ∷ 5 ∷ [])
-    ∷ but (surveyed five 4) (5 ∷ 5 ∷ 5 ∷ [])
-    ∷ but (surveyed five 6) (0 ∷ 5 ∷ 5 ∷ [])
-    -- "The rest of the store is all zeros": the entries end before it
-    ∷ but (surveyed five 5) (0 ∷ 5 ∷ 8 ∷ [])
+    but (surveyed five 5) (1 ∷ 0 ∷ 0 ∷ 5 ∷ [])
+    ∷ but (surveyed five 4) (1 ∷ 5 ∷ 5 ∷ 5 ∷ [])
+    ∷ but (surveyed five 6) (1 ∷ 0 ∷ 5 ∷ 5 ∷ [])
+    -- "The rest of the store is all zeros": the entries end before it, and a byte there makes it malformed
+    ∷ but (surveyed five 5) (1 ∷ 0 ∷ 5 ∷ 8 ∷ [])
+    ∷ but (truth (wellFormed threeBytes (five ++ (1 ∷ [])))) (1 ∷ [])
     ∷ []
 
 -- the refusal, and the store
@@ -131,7 +132,7 @@ wrong-look-by-headers =
 
 -- ---- pieces
 
--- 0 none is left; 1 copied: the next start, the remembered point; 2 called: the number, the next start, the remembered point; 3 broken
+-- 0 none is left; 1 copied: the next start, the remembered point; 2 called: the number, the next start, the remembered point; 3 refused
 abbrev pieceIs : Piece → List ℕ
 pieceIs End = (0 ∷ [])
 pieceIs (Copied n k) = (1 ∷ n ∷ k .point .x ∷ k .point .y ∷ [])

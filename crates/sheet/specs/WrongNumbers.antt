@@ -168,8 +168,8 @@ wrong-read-point =
     -- "8, with place 0, for .. a remembered point outside 0..4095"
     ∷ point-read (from 4096 0) (64 ∷ 64 ∷ []) 1 (8 ∷ 1 ∷ [])
     -- "The 16 bit of Extra is ignored when read"
-    ∷ point-read freshMemory (112 ∷ 96 ∷ 64 ∷ []) 0 (0 ∷ 0 ∷ 2 ∷ 2 ∷ 3 ∷ [])
-    -- "The others may be left out": where HiY is, the first byte is the next that stands
+    ∷ point-read freshMemory (112 ∷ 96 ∷ 64 ∷ []) 0 (0 ∷ 0 ∷ 4 ∷ 2 ∷ 3 ∷ [])
+    -- "The others may be left out": where HiY is left out, the first byte is that which stands next
     ∷ point-read freshMemory (97 ∷ 64 ∷ []) 0 (0 ∷ 0 ∷ 0 ∷ 1 ∷ 2 ∷ [])
     ∷ []
 
@@ -180,7 +180,7 @@ point-written kept p out start wrong =
 abbrev pub wrong-write-point : List Wrong
 wrong-write-point =
     -- "Beyond the result a lent list or output is unchanged", and a refused call leaves it as it was
-    point-written freshMemory (at 0 100) (9 ∷ 9 ∷ []) 0 (7 ∷ 0 ∷ 121 ∷ 64 ∷ [])
+    point-written freshMemory (at 0 100) (9 ∷ []) 0 (7 ∷ 0 ∷ 121 ∷ [])
     ∷ point-written freshMemory (at 4 0) (9 ∷ 9 ∷ []) 1 (0 ∷ 2 ∷ 65 ∷ 9 ∷ [])
     -- 8 for "a value or remembered point outside its range"
     ∷ point-written (from 4096 0) (at 0 0) (9 ∷ 9 ∷ 9 ∷ []) 0 (0 ∷ 3 ∷ 96 ∷ 32 ∷ 64 ∷ [])

@@ -126,7 +126,7 @@ abbrev pub wrong-step-lent : List Wrong
 wrong-step-lent =
     -- "refused with 11 for W or H outside 1..512, then with 8": the number is not 0, and the record stays as it came
     but (settledIs (makeStep 513 1 (beamIn fresh))) (0 ∷ fresh)
-    ∷ but (settledIs (makeStep 2 2 (beamIn (0 ∷ 0 ∷ 0 ∷ 1 ∷ 1 ∷ 1 ∷ 2 ∷ [])))) (8 ∷ 0 ∷ 0 ∷ 0 ∷ 1 ∷ 1 ∷ 0 ∷ 2 ∷ [])
+    ∷ but (settledIs (makeStep 2 2 (beamIn (0 ∷ 0 ∷ 0 ∷ 1 ∷ 1 ∷ 1 ∷ 2 ∷ [])))) (8 ∷ 0 ∷ 0 ∷ 0 ∷ 1 ∷ 1 ∷ 0 ∷ 1 ∷ [])
     -- "moves the beam one place in that record"
     ∷ but (settledIs (makeStep 2 2 (beamIn fresh))) (0 ∷ fresh)
     ∷ []
@@ -243,6 +243,9 @@ wrong-ran =
     -- an end of row counts "for the beam and not for the number returned"
     ∷ but (returned 2 2 (raster (pos 1) (pos 40 ∷ pos 96 ∷ [])) start ∷ []) (2 ∷ [])
     ∷ running (raster (pos 0) (pos 96 ∷ []) ∷ runs (pos 13 ∷ []) ∷ []) (5 ∷ 9 ∷ 9 ∷ 9 ∷ [])
+    -- "the same list cut into other writes .. leaves the same surface": a cut does not set the beam back, at a 96 either
+    ∷ running (raster (pos 2) (pos 42 ∷ []) ∷ raster (pos 2) (pos 60 ∷ []) ∷ []) (3 ∷ 4 ∷ 9 ∷ 9 ∷ [])
+    ∷ running (raster (pos 1) (pos 42 ∷ pos 96 ∷ []) ∷ raster (pos 1) (pos 40 ∷ []) ∷ []) (1 ∷ 1 ∷ 9 ∷ 9 ∷ [])
     ∷ []
 
 -- ---- the exported calls: the number, the slots, and what is lent
@@ -290,7 +293,7 @@ abbrev pub wrong-ardh-step : List Wrong
 wrong-ardh-step =
     -- W and H in their order; refused, the record is as it came
     but (settledIs (makeStep 3 2 (beamIn wide))) (8 ∷ wide)
-    ∷ but (settledIs (makeStep 2 2 (beamIn (0 ∷ 0 ∷ 0 ∷ 1 ∷ 1 ∷ 1 ∷ 2 ∷ [])))) (8 ∷ 0 ∷ 0 ∷ 0 ∷ 1 ∷ 1 ∷ 0 ∷ 2 ∷ [])
+    ∷ but (settledIs (makeStep 2 2 (beamIn (0 ∷ 0 ∷ 0 ∷ 1 ∷ 1 ∷ 1 ∷ 2 ∷ [])))) (8 ∷ 0 ∷ 0 ∷ 0 ∷ 1 ∷ 1 ∷ 0 ∷ 1 ∷ [])
     ∷ []
 
 abbrev pub wrong-ardh-draw-raster : List Wrong

@@ -18,7 +18,7 @@ use Rattle.signs.proofs.Integers.{sign-given, size-given}
 use Rattle.wire.specs.declared.Written.{Written}
 use Rattle.wire.specs.declared.Written.the-variants.{Next}
 use Rattle.wire.specs.Sending.{sent, writtenOf, roomFor, afterWrite, poured}
-use Rattle.wire.proofs.Laying.{poured-so, poured-stands}
+use Rattle.wire.proofs.Writings.{poured-so, poured-stands}
 use Rattle.numbers.specs.Integers.{spellOf, spell, writeInteger}
 use Rattle.numbers.specs.Counts.{writeCount}
 

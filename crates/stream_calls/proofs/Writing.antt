@@ -165,7 +165,7 @@ module _ (kept : Remembered) (first second : ℕ) (vs es : List ℤ) (room : ℕ
 
     pub known-writes : (out : List ℕ) {r : Sent} {left : List ℕ} → Writes kept (record { first = first; second = second; parameters = ps }) es out (writeFitting kept (record { first = first; second = second; parameters = ps }) es room) r left
         → Writes kept (commandGiven first second vs) es out (writeCommand kept (commandGiven first second vs) es room) r left
-    known-writes out w = record { answered = w .answered ∙ same; remembered = w .remembered ∙ rw (same, known); laid = w .laid ∙ rw (same, known) }
+    known-writes out w = record { answered = w .answered ∙ same; remembered = w .remembered ∙ rw (same, known); stands = w .stands ∙ rw (same, known) }
 
   module _ (g : f ≡ NoKind) where
     none : refused 8 0 ≡ writeCommand kept (commandGiven first second vs) es room
@@ -174,13 +174,13 @@ module _ (kept : Remembered) (first second : ℕ) (vs es : List ℤ) (room : ℕ
 
     pub unknown-writes : (out : List ℕ) → Writes kept (commandGiven first second vs) es out (writeCommand kept (commandGiven first second vs) es room) (record { answer = Written.Refused NotValid; kept = kept }) out
     unfolding writtenOf keptAfter valueOr afterWrite
-    unknown-writes out = record { answered = none; remembered = rw (sym none); laid = rw (sym none) }
+    unknown-writes out = record { answered = none; remembered = rw (sym none); stands = rw (sym none) }
 
 -- ---- what is remembered behind a writing
 
 module _ (kept : Remembered) (c : Command) (es : List ℤ) (out : List ℕ) (w : Written) {a : Answer ℕ} {left : List ℕ} (e : writtenOf w ≡ a) (o : left ≡ afterWrite (writtenOf w) (spellCommand kept c es) out 0) where
-  laid-so : left ≡ afterWrite a (spellCommand kept c es) out 0
-  laid-so = o ∙ rw e
+  stands-so : left ≡ afterWrite a (spellCommand kept c es) out 0
+  stands-so = o ∙ rw e
 
   said-so : {v : Written} → w ≡ v → writtenOf v ≡ a
   said-so g = rw (sym g) e
@@ -194,10 +194,10 @@ module _ (kept : Remembered) (c : Command) (es : List ℤ) (out : List ℕ) (w :
   same-kept g = rw (sym e, g)
 
   pub writes-moved : {n : ℕ} → w ≡ Next n → {k : Remembered} → k ≡ afterValues kept (valuesOf (c .parameters)) → Writes kept c es out a (record { answer = Next n; kept = k }) left
-  writes-moved g j = record { answered = said-so g; remembered = moved g j; laid = laid-so }
+  writes-moved g j = record { answered = said-so g; remembered = moved g j; stands = stands-so }
 
   pub writes-same : {f : Refusal} → w ≡ Written.Refused f → Writes kept c es out a (record { answer = Written.Refused f; kept = kept }) left
-  writes-same g = record { answered = said-so g; remembered = same-kept g; laid = laid-so }
+  writes-same g = record { answered = said-so g; remembered = same-kept g; stands = stands-so }
 
 -- ---- from the lent point
 
@@ -209,10 +209,10 @@ module _ (point : List ℕ) {k : Remembered} (ek : k ≡ keptIn point) (c : Comm
   point-so = el ∙ rw (h .remembered, ek)
 
   out-so : left ≡ afterWrite (writeCommand (keptIn point) c es (length out)) (spellCommand (keptIn point) c es) out 0
-  out-so = h .laid ∙ rw ek
+  out-so = h .stands ∙ rw ek
 
   pub command-written : {n : ℕ} → s .answer ≡ Next n → WrittenCommand point c es out 0 n last left
-  command-written g = record { answered = written-done said g; counted = written-next said g; remembered = point-so; laid = out-so }
+  command-written g = record { answered = written-done said g; counted = written-next said g; remembered = point-so; stands = out-so }
 
   pub command-refused : {f : Refusal} {n : ℕ} → s .answer ≡ Written.Refused f → n ≡ numberOf f → WrittenCommand point c es out n 0 last left
-  command-refused g j = record { answered = written-refused said g j; counted = written-none said g; remembered = point-so; laid = out-so }
+  command-refused g j = record { answered = written-refused said g j; counted = written-none said g; remembered = point-so; stands = out-so }

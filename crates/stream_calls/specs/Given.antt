@@ -54,7 +54,7 @@ keptAfter kept c a = valueOr kept (λ (n : ℕ). afterValues kept (valuesOf (c .
 pub record Writes (kept : Remembered) (c : Command) (es : List ℤ) (out : List ℕ) (a : Answer ℕ) (r : Sent) (left : List ℕ) : Type 0 where
   pub answered : writtenOf (r .answer) ≡ a
   pub remembered : r .kept ≡ keptAfter kept c a
-  pub laid : left ≡ afterWrite a (spellCommand kept c es) out 0
+  pub stands : left ≡ afterWrite a (spellCommand kept c es) out 0
 
 -- and ardh_write_command: from the lent point
 module _ (point : List ℕ) (c : Command) (es : List ℤ) (out : List ℕ) where
@@ -65,4 +65,4 @@ module _ (point : List ℕ) (c : Command) (es : List ℤ) (out : List ℕ) where
     pub answered : answer ≡ number wrote
     pub counted : written ≡ valueOr 0 (λ (n : ℕ). n) wrote
     pub remembered : last ≡ twoOf (keptAfter (keptIn point) c wrote)
-    pub laid : left ≡ afterWrite wrote (spellCommand (keptIn point) c es) out 0
+    pub stands : left ≡ afterWrite wrote (spellCommand (keptIn point) c es) out 0

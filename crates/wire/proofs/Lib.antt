@@ -1,4 +1,4 @@
-pub mod Laying
+pub mod Writings
 pub mod Feeds
 pub mod Coinciding
 pub mod Handing

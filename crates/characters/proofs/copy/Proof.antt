@@ -1,5 +1,5 @@
 use Prim.Native.Nat.{_-_}
-use Rattle.wire.proofs.Laying.{Laying}
+use Rattle.wire.proofs.Writings.{Copying}
 use Rattle.characters.specs.Characters.{lowBytes}
 use Rattle.characters.proofs.Entries.{entering}
 use borrow.Author.Needs.{needs}
@@ -7,7 +7,7 @@ use Rattle.characters.proofs.copy.Statement.{statement}
 use Rattle.characters.proofs.copy.Tie as tie
 
 abbrev Inv-loop : tie.InvT-loop
-Inv-loop list out₀ at count i₀ out i = Laying (lowBytes list) out₀ out at i
+Inv-loop list out₀ at count i₀ out i = Copying (lowBytes list) out₀ out at i
 
 abbrev μ-loop : tie.MeasureT-loop
 μ-loop list out₀ at count i₀ out i = count - i

@@ -1,4 +1,4 @@
-use Rattle.wire.proofs.Laying.{pours-size, pours-stand, none-size, none-stand}
+use Rattle.wire.proofs.Writings.{pours-size, pours-stand, none-size, none-stand}
 use Rattle.points.proofs.Stepping.{tested-first, tested-second}
 use Rattle.points.proofs.Spelling.{both-tested, sent-point}
 use borrow.Author.Needs.{needs}

@@ -1,4 +1,4 @@
-use Rattle.wire.proofs.Laying.{outside, none-changed, poured-so, poured-stands}
+use Rattle.wire.proofs.Writings.{outside, none-changed, poured-so, poured-stands}
 use Rattle.points.proofs.Spelling.{both-outside, both-inside}
 use borrow.Author.Needs.{needs}
 use Rattle.points.proofs.write_point.Statement.{statement}

@@ -1,7 +1,7 @@
 use borrow.Author.Needs.{needs}
 use mathlib.Core.Path.{_≡_}
 use Rattle.reports.specs.Reading.{charactersEnd}
-use Rattle.reports.proofs.Stepping.{run-done, run-more, run-broken}
+use Rattle.reports.proofs.Stepping.{run-done, run-more, run-refused}
 use Rattle.reports.proofs.characters_end.Statement.{statement}
 use Rattle.reports.proofs.characters_end.Tie as tie
 
@@ -18,7 +18,7 @@ byte-within-requires : tie.Need-byte-within-requires Inv-loop μ-loop
 byte-within-requires c κs = search needs
 
 enum-known-byte : tie.Need-enum-known-byte Inv-loop μ-loop
-enum-known-byte c = search (needs, run-broken)
+enum-known-byte c = search (needs, run-refused)
 
 sub-left : tie.Need-sub-left Inv-loop μ-loop
 sub-left c = search needs
@@ -30,10 +30,10 @@ loop-again : tie.Need-loop-again Inv-loop μ-loop
 loop-again c = search (needs, run-more)
 
 enum-known-e : tie.Need-enum-known-e Inv-loop μ-loop
-enum-known-e c = search (needs, run-broken)
+enum-known-e c = search (needs, run-refused)
 
 returns : tie.Need-returns Inv-loop μ-loop
-returns c = search (needs, run-broken)
+returns c = search (needs, run-refused)
 
 returns-2 : tie.Need-returns-2 Inv-loop μ-loop
 returns-2 c = search (needs, run-done)

@@ -1,4 +1,4 @@
-use Rattle.reports.proofs.Stepping.{string-no, string-broken, string-short, string-held, run-fits, string-stands, string-kept}
+use Rattle.reports.proofs.Stepping.{string-no, characters-refused, string-short, string-held, run-fits, string-stands, string-kept}
 use borrow.Author.Needs.{needs}
 use Rattle.reports.proofs.read_string.Statement.{statement}
 use Rattle.reports.proofs.read_string.Tie as tie
@@ -37,7 +37,7 @@ returns-2 : tie.Need-returns-2
 returns-2 c = search (needs, string-held, string-stands)
 
 returns-3 : tie.Need-returns-3
-returns-3 c = search (needs, string-broken, string-kept)
+returns-3 c = search (needs, characters-refused, string-kept)
 
 returns-4 : tie.Need-returns-4
 returns-4 c = search (needs, string-no, string-kept)

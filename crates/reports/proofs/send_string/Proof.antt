@@ -1,4 +1,4 @@
-use Rattle.wire.proofs.Laying.{written-so, none-changed, all-changed, before-end}
+use Rattle.wire.proofs.Writings.{written-so, none-changed, all-changed, before-end}
 use Rattle.reports.proofs.Writings.{string-long, string-laid}
 use borrow.Author.Needs.{needs}
 use Rattle.reports.proofs.send_string.Statement.{statement}

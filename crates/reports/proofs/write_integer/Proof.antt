@@ -1,4 +1,4 @@
-use Rattle.wire.proofs.Laying.{outside, accepted, standing, none-changed}
+use Rattle.wire.proofs.Writings.{outside, accepted, standing, none-changed}
 use Rattle.reports.proofs.Writings.{not-report, a-report, report-spelled}
 use borrow.Author.Needs.{needs}
 use Rattle.reports.proofs.write_integer.Statement.{statement}

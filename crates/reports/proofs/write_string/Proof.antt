@@ -1,4 +1,4 @@
-use Rattle.wire.proofs.Laying.{outside, none-changed, accepted}
+use Rattle.wire.proofs.Writings.{outside, none-changed, accepted}
 use Rattle.reports.proofs.Writings.{too-long, no-characters, a-string, all-characters}
 use borrow.Author.Needs.{needs}
 use Rattle.reports.proofs.write_string.Statement.{statement}

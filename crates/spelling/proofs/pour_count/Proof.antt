@@ -1,5 +1,5 @@
 use Rattle.refusals.proofs.Rules.{tests}
-use Rattle.wire.proofs.Laying.{pours-size, pours-stand, none-size, none-stand}
+use Rattle.wire.proofs.Writings.{pours-size, pours-stand, none-size, none-stand}
 use borrow.Author.Needs.{needs}
 use Rattle.spelling.proofs.pour_count.Statement.{statement}
 use Rattle.spelling.proofs.pour_count.Tie as tie

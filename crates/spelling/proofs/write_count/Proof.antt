@@ -1,5 +1,5 @@
 use Rattle.refusals.proofs.Rules.{tests}
-use Rattle.wire.proofs.Laying.{outside, none-changed}
+use Rattle.wire.proofs.Writings.{outside, none-changed}
 use Rattle.spelling.proofs.Writing.{count-written, count-spelled}
 use borrow.Author.Needs.{needs}
 use Rattle.spelling.proofs.write_count.Statement.{statement}

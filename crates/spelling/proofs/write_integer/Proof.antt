@@ -1,4 +1,4 @@
-use Rattle.wire.proofs.Laying.{outside, none-changed}
+use Rattle.wire.proofs.Writings.{outside, none-changed}
 use Rattle.spelling.proofs.Writing.{no-integer, integer-so, integer-stands}
 use borrow.Author.Needs.{needs}
 use Rattle.spelling.proofs.write_integer.Statement.{statement}

@@ -1,4 +1,4 @@
-use Rattle.wire.proofs.Laying.{ones}
+use Rattle.wire.proofs.Writings.{ones}
 use borrow.Author.Needs.{needs}
 use Rattle.wire.proofs.pour_behind.Statement.{statement}
 use Rattle.wire.proofs.pour_behind.Tie as tie

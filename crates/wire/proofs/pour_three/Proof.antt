@@ -1,4 +1,4 @@
-use Rattle.wire.proofs.Laying.{more}
+use Rattle.wire.proofs.Writings.{more}
 use borrow.Author.Needs.{needs}
 use Rattle.wire.proofs.pour_three.Statement.{statement}
 use Rattle.wire.proofs.pour_three.Tie as tie

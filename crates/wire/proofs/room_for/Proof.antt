@@ -1,4 +1,4 @@
-use Rattle.wire.proofs.Laying.{rooms}
+use Rattle.wire.proofs.Writings.{rooms}
 use borrow.Author.Needs.{needs}
 use Rattle.wire.proofs.room_for.Statement.{statement}
 use Rattle.wire.proofs.room_for.Tie as tie

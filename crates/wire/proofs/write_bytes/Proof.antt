@@ -1,4 +1,4 @@
-use Rattle.wire.proofs.Laying.{written-so, all-changed, none-changed}
+use Rattle.wire.proofs.Writings.{written-so, all-changed, none-changed}
 use borrow.Author.Needs.{needs}
 use Rattle.wire.proofs.write_bytes.Statement.{statement}
 use Rattle.wire.proofs.write_bytes.Tie as tie

@@ -1,4 +1,4 @@
-use Rattle.wire.proofs.Laying.{standing}
+use Rattle.wire.proofs.Writings.{standing}
 use Rattle.writing.proofs.Lists.{all-written, stands-written, taken-back, front-long, answer-of}
 use borrow.Author.Needs.{needs}
 use Rattle.writing.proofs.send.Statement.{statement}

@@ -1,4 +1,4 @@
--- Laying bytes: what the loop keeps, and each way out of it.
+-- Copying bytes: what the loop keeps, and each way out of it.
 use Prim.Native.Nat.{ℕ, _+_, _-_, _*_, _^_, _≤_, _<_}
 use mathlib.Core.Path.{_≡_, refl, sym, _∙_, ap}
 use mathlib.Core.Bool.{Bool, true, false}
@@ -22,18 +22,18 @@ use Rattle.wire.specs.declared.Written.the-variants.{Next, Refused}
 use Rattle.wire.specs.Sending.{sent, isPlain, writtenOf, roomFor, inRoom, writeAt, writeIf, afterWrite, poured}
 
 -- what is left, laid from here, ends where the whole ends
-pub record Laying (w out₀ out : List ℕ) (at i : ℕ) : Type 0 where
+pub record Copying (w out₀ out : List ℕ) (at i : ℕ) : Type 0 where
   pub upto : i ≤ length w
   pub long : length out ≡ length out₀
   pub whole : sets out (at + i) (drop i w) ≡ sets out₀ at w
 
-pub laying-none : (w out : List ℕ) (at : ℕ) → Laying w out out at 0
-laying-none w out at =
+pub copying-none : (w out : List ℕ) (at : ℕ) → Copying w out out at 0
+copying-none w out at =
     let z : at + 0 ≡ at = omega arith in
     record { upto = omega arith; long = refl; whole = ap (λ (k : ℕ). sets out k w) z }
 
-pub laying-more : (w out₀ out : List ℕ) (at i : ℕ) {count : ℕ} → Laying w out₀ out at i → count ≡ inRoom (length w) (length out₀) at → i < count → Laying w out₀ (set out (at + i) (getD w i 0)) at (i + 1)
-laying-more w out₀ out at i f e k =
+pub copying-more : (w out₀ out : List ℕ) (at i : ℕ) {count : ℕ} → Copying w out₀ out at i → count ≡ inRoom (length w) (length out₀) at → i < count → Copying w out₀ (set out (at + i) (getD w i 0)) at (i + 1)
+copying-more w out₀ out at i f e k =
     let h : i < length w = omega (arith, e, k) in
     let b = getD w i 0 in
     let d : drop i w ≡ b ∷ drop (i + 1) w = drop-cons w i 0 h ∙ rw (add-one i) in
@@ -103,14 +103,14 @@ sent-same kept w e = ap (sent kept) e
 -- ---- as far as there is room
 
 -- where room was wanting, what is left lies behind the end
-pub laying-end : (w out₀ out : List ℕ) (at i : ℕ) {count : ℕ} → Laying w out₀ out at i → count ≡ inRoom (length w) (length out₀) at → count ≤ i → out ≡ sets out₀ at w
-laying-end w out₀ out at i f e h = go (leb (length w) i) refl
+pub copying-end : (w out₀ out : List ℕ) (at i : ℕ) {count : ℕ} → Copying w out₀ out at i → count ≡ inRoom (length w) (length out₀) at → count ≤ i → out ≡ sets out₀ at w
+copying-end w out₀ out at i f e h = go (leb (length w) i) refl
   where
     go : (t : Bool) → leb (length w) i ≡ t → out ≡ sets out₀ at w
     go true g = let d : drop i w ≡ [] = drop-of-length-le w (leb-true (length w) i g) in rw d at (f .whole)
     go false g = sym (past-end out (at + i) (drop i w) (omega (arith, e, h, f .long, leb-false (length w) i g))) ∙ f .whole
 
-pub ruleset layings = (laying-none, laying-more, laying-end)
+pub ruleset copyings = (copying-none, copying-more, copying-end)
 
 -- ---- byte by byte
 
