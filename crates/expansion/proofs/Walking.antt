@@ -112,8 +112,8 @@ module _ (volatile saved : List ℕ) (d : ℕ) (body : List ℕ) (from : Going) 
       pub walked-end : p ≡ Piece.End → Ran (bodyStretch volatile saved d body (from .kept) (from .entered)) (from .at) out₀ out (Step.On going)
       walked-end e = ends _ (here-is e) (ran-none going out)
 
-      pub walked-refused : p ≡ Piece.Refused → Ran (bodyStretch volatile saved d body (from .kept) (from .entered)) (from .at) out₀ out (Step.Refused BodyRefused)
-      walked-refused e = ends _ (here-is e) (ran-stops BodyRefused (going .at) (going .entered) (going .kept) out)
+      pub piece-refused : p ≡ Piece.Refused → Ran (bodyStretch volatile saved d body (from .kept) (from .entered)) (from .at) out₀ out (Step.Refused BodyRefused)
+      piece-refused e = ends _ (here-is e) (ran-stops BodyRefused (going .at) (going .entered) (going .kept) out)
 
       -- what is left behind the piece, with the fuel for it
       onward : (bs : List ℕ) (next : ℕ) (after : Going) {out′ : List ℕ} → (i < next) × (next ≤ length body) → walked (callStretch volatile saved d) (length body - i + 1) body i (going .kept) (going .entered) ≡ front bs (walked (callStretch volatile saved d) (length body - i) body next (after .kept) (after .entered)) → after .at ≡ going .at + length bs → after .entered ≤ 1024 → length bs + 256 * (1024 - after .entered) ≤ next - i + 256 * (1024 - going .entered) → out′ ≡ sets out (going .at) bs → Walking volatile saved d body from out₀ after next out′

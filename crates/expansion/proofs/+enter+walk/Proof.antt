@@ -1,6 +1,6 @@
 use borrow.Author.Needs.{needs}
 use lib.ListN.{length}
-use Rattle.expansion.proofs.Walking.{Walking, walking-none, same-long, same-ran, walked-end, walked-refused, walked-refused, copied-from, copied-to, copied-less, copied-counts, walking-copied, called-less, called-roomy, walking-called}
+use Rattle.expansion.proofs.Walking.{Walking, walking-none, same-long, same-ran, walked-end, piece-refused, walked-refused, copied-from, copied-to, copied-less, copied-counts, walking-copied, called-less, called-roomy, walking-called}
 use Rattle.expansion.proofs.Entering.{enter-negative, enter-deep, enter-absent, enter-full, enter-roomy, enter-in}
 use Prim.Native.Nat.{ℕ, _+_, _-_, _*_, _<_}
 use borrow.Fn.Kinds.{In}
@@ -83,7 +83,7 @@ pub +enter+walk-spec : {M : Type 1} → statement M
     (λ c. search (needs, walked-end))
     (λ c. search needs)
     (λ c. search (needs, same-long))
-    (λ c. search (needs, walked-refused))
+    (λ c. search (needs, piece-refused))
     (λ c. search needs)
     (λ c. search (needs, copied-from))
     (λ c. search (needs, copied-from))
