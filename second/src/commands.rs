@@ -435,11 +435,11 @@ mod tests {
         for (command, parameters) in worked() {
             let bytes = with_letters(&command.letters, parameters);
             for place in 3..bytes.len() {
-                let mut broken = bytes.clone();
-                broken.splice(place.., [ESC, b'K']);
-                assert_eq!(refusal(&broken), (6, place));
-                broken.splice(place.., [ESC, ESC, 63]);
-                assert_eq!(refusal(&broken), (6, place));
+                let mut damaged = bytes.clone();
+                damaged.splice(place.., [ESC, b'K']);
+                assert_eq!(refusal(&damaged), (6, place));
+                damaged.splice(place.., [ESC, ESC, 63]);
+                assert_eq!(refusal(&damaged), (6, place));
             }
         }
     }

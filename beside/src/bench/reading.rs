@@ -54,13 +54,13 @@ impl Answer {
                 let kind = command.kind as usize;
                 (0, [2, next, 0, first, second, kind, command.entries])
             }
-            Item::RefusedCommand { trouble, next } => {
-                let item = [3, next, trouble.place, 0, 0, 0, 0];
-                (trouble.refusal.number(), item)
+            Item::RefusedCommand { refused, next } => {
+                let item = [3, next, refused.place, 0, 0, 0, 0];
+                (refused.refusal.number(), item)
             }
-            Item::Refused(trouble) => {
-                let item = [4, 0, trouble.place, 0, 0, 0, 0];
-                (trouble.refusal.number(), item)
+            Item::Refused(refused) => {
+                let item = [4, 0, refused.place, 0, 0, 0, 0];
+                (refused.refusal.number(), item)
             }
         };
         Answer {

@@ -2,7 +2,7 @@
 
 use super::integers::MOST_ENTRIES;
 use super::points::Point;
-use super::refusals::{trouble, Refusal, Trouble};
+use super::refusals::{refused, ReadingRefused, Refusal};
 use super::table::{begins_command, kind_of, Entry, Kind};
 use super::wire::{Reader, ESC};
 
@@ -18,7 +18,11 @@ pub struct Command {
 
 impl Reader<'_> {
     /// The point is set, and the list filled, once the whole command is known to be good.
-    pub fn command(&mut self, point: &mut Point, list: &mut [i32]) -> Result<Command, Trouble> {
+    pub fn command(
+        &mut self,
+        point: &mut Point,
+        list: &mut [i32],
+    ) -> Result<Command, ReadingRefused> {
         let start = self.at;
         self.at += 1;
         let (letters, kind) = self.letters()?;
@@ -39,22 +43,22 @@ impl Reader<'_> {
         Ok(command)
     }
 
-    fn letters(&mut self) -> Result<([u8; 2], Kind), Trouble> {
+    fn letters(&mut self) -> Result<([u8; 2], Kind), ReadingRefused> {
         let first = self.letter()?;
         if !begins_command(first) {
-            return trouble(Refusal::UnknownCommand, self.at - 1);
+            return refused(Refusal::UnknownCommand, self.at - 1);
         }
         let letters = [first, self.letter()?];
         match kind_of(letters) {
             Some(kind) => Ok((letters, kind)),
-            None => trouble(Refusal::UnknownCommand, self.at - 1),
+            None => refused(Refusal::UnknownCommand, self.at - 1),
         }
     }
 
-    fn letter(&mut self) -> Result<u8, Trouble> {
+    fn letter(&mut self) -> Result<u8, ReadingRefused> {
         match self.bytes.get(self.at) {
-            None => trouble(Refusal::BytesEnd, self.bytes.len()),
-            Some(&ESC) => trouble(Refusal::NewEscape, self.at),
+            None => refused(Refusal::BytesEnd, self.bytes.len()),
+            Some(&ESC) => refused(Refusal::NewEscape, self.at),
             Some(&letter) => {
                 self.at += 1;
                 Ok(letter)
@@ -62,7 +66,7 @@ impl Reader<'_> {
         }
     }
 
-    fn numbers(&mut self, command: &mut Command) -> Result<(), Trouble> {
+    fn numbers(&mut self, command: &mut Command) -> Result<(), ReadingRefused> {
         let values = &mut command.values;
         match command.kind {
             Kind::TwoCharacters => {
@@ -84,7 +88,7 @@ impl Reader<'_> {
     }
 
     /// The points of a command, the second from the first; the last of them is handed back.
-    fn points(&mut self, command: &mut Command, last: Point) -> Result<Point, Trouble> {
+    fn points(&mut self, command: &mut Command, last: Point) -> Result<Point, ReadingRefused> {
         let first = self.point(last)?;
         command.values[0] = i32::from(first.x);
         command.values[1] = i32::from(first.y);
@@ -97,12 +101,17 @@ impl Reader<'_> {
         Ok(second)
     }
 
-    fn character(&mut self) -> Result<i32, Trouble> {
+    fn character(&mut self) -> Result<i32, ReadingRefused> {
         Ok(i32::from(self.take()?.byte))
     }
 
     /// The entries wait in an array until the last of them is read: the lent list is not touched by a refused command.
-    fn list(&mut self, entry: Entry, start: usize, list: &mut [i32]) -> Result<usize, Trouble> {
+    fn list(
+        &mut self,
+        entry: Entry,
+        start: usize,
+        list: &mut [i32],
+    ) -> Result<usize, ReadingRefused> {
         let count = self.count()?;
         let mut entries = [0; MOST_ENTRIES];
         for value in &mut entries[..count] {
@@ -112,7 +121,7 @@ impl Reader<'_> {
             };
         }
         if count > list.len() {
-            return trouble(Refusal::TooShort, start);
+            return refused(Refusal::TooShort, start);
         }
         list[..count].copy_from_slice(&entries[..count]);
         Ok(count)

@@ -27,7 +27,7 @@ pub struct Expanded {
     pub entered: usize,
 }
 
-/// The expansion of a macro into `out`. A first run finds any trouble and the length, so that a refusal leaves `out` as it was.
+/// The expansion of a macro into `out`. A first run finds any refusal and the length, so that a refusal leaves `out` as it was.
 pub fn expand(
     volatile: &[u8],
     saved: &[u8],

@@ -1,25 +1,25 @@
 //! Integers and counts: read, and spelled.
 
-use super::refusals::{trouble, Refusal, Trouble};
+use super::refusals::{refused, ReadingRefused, Refusal};
 use super::wire::{Reader, Taken};
 
 pub const MOST_ENTRIES: usize = 256;
 
 impl Reader<'_> {
-    pub fn integer(&mut self) -> Result<i32, Trouble> {
+    pub fn integer(&mut self) -> Result<i32, ReadingRefused> {
         Ok(self.placed_integer()?.0)
     }
 
-    pub fn count(&mut self) -> Result<usize, Trouble> {
+    pub fn count(&mut self) -> Result<usize, ReadingRefused> {
         let (value, place) = self.placed_integer()?;
         if value < 0 || value as usize > MOST_ENTRIES {
-            return trouble(Refusal::CountOutside, place);
+            return refused(Refusal::CountOutside, place);
         }
         Ok(value as usize)
     }
 
     /// An integer, and the place of its low byte.
-    fn placed_integer(&mut self) -> Result<(i32, usize), Trouble> {
+    fn placed_integer(&mut self) -> Result<(i32, usize), ReadingRefused> {
         let mut high = 0;
         for _ in 0..2 {
             let taken = self.take()?;
@@ -32,11 +32,11 @@ impl Reader<'_> {
         if taken.byte < 64 {
             return with_low_byte(high, taken);
         }
-        trouble(Refusal::IntegerOutside, taken.place)
+        refused(Refusal::IntegerOutside, taken.place)
     }
 }
 
-fn with_low_byte(high: i32, low: Taken) -> Result<(i32, usize), Trouble> {
+fn with_low_byte(high: i32, low: Taken) -> Result<(i32, usize), ReadingRefused> {
     let magnitude = high * 16 + i32::from(low.byte & 15);
     let value = if low.byte & 16 == 0 {
         -magnitude
@@ -44,7 +44,7 @@ fn with_low_byte(high: i32, low: Taken) -> Result<(i32, usize), Trouble> {
         magnitude
     };
     if !is_integer(value) {
-        return trouble(Refusal::IntegerOutside, low.place);
+        return refused(Refusal::IntegerOutside, low.place);
     }
     Ok((value, low.place))
 }
@@ -81,7 +81,7 @@ pub fn spell_integer(value: i32, out: &mut [u8]) -> usize {
 mod tests {
     use super::*;
 
-    fn read(bytes: &[u8]) -> Result<i32, Trouble> {
+    fn read(bytes: &[u8]) -> Result<i32, ReadingRefused> {
         Reader { bytes, at: 0 }.integer()
     }
 
@@ -106,8 +106,8 @@ mod tests {
 
     #[test]
     fn one_more_than_the_greatest_is_refused_at_its_low_byte() {
-        assert_eq!(read(&[96, 64, 48]), trouble(Refusal::IntegerOutside, 2));
-        assert_eq!(read(&[64, 64, 64]), trouble(Refusal::IntegerOutside, 2));
+        assert_eq!(read(&[96, 64, 48]), refused(Refusal::IntegerOutside, 2));
+        assert_eq!(read(&[64, 64, 64]), refused(Refusal::IntegerOutside, 2));
     }
 
     #[test]
@@ -119,7 +119,7 @@ mod tests {
     #[test]
     fn a_pair_stands_for_127() {
         assert_eq!(read(&[95, 27, 63, 63]), Ok(32767));
-        assert_eq!(read(&[95, 27]), trouble(Refusal::BytesEnd, 2));
-        assert_eq!(read(&[95, 27, 75]), trouble(Refusal::NewEscape, 1));
+        assert_eq!(read(&[95, 27]), refused(Refusal::BytesEnd, 2));
+        assert_eq!(read(&[95, 27, 75]), refused(Refusal::NewEscape, 1));
     }
 }

@@ -2,7 +2,7 @@
 
 use super::commands::Command;
 use super::points::Point;
-use super::refusals::{Refusal, Trouble};
+use super::refusals::{ReadingRefused, Refusal};
 use super::wire::{Reader, ESC};
 
 #[derive(Clone, Copy, Debug, PartialEq, Eq)]
@@ -18,11 +18,11 @@ pub enum Item {
         next: usize,
     },
     RefusedCommand {
-        trouble: Trouble,
+        refused: ReadingRefused,
         next: usize,
     },
     /// There is no item: 7 or 8.
-    Refused(Trouble),
+    Refused(ReadingRefused),
 }
 
 impl Item {
@@ -40,7 +40,7 @@ impl Item {
 /// The item that starts at `start`. The point is then that behind the item.
 pub fn next_item(bytes: &[u8], start: usize, point: &mut Point, list: &mut [i32]) -> Item {
     if start > bytes.len() || !point.is_inside() {
-        return Item::Refused(Trouble {
+        return Item::Refused(ReadingRefused {
             refusal: Refusal::NotValid,
             place: 0,
         });
@@ -62,10 +62,10 @@ fn command_item(bytes: &[u8], start: usize, point: &mut Point, list: &mut [i32])
             command,
             next: reader.at,
         },
-        Err(trouble) if trouble.refusal == Refusal::TooShort => Item::Refused(trouble),
-        Err(trouble) => Item::RefusedCommand {
-            trouble,
-            next: next_escape(bytes, trouble.place),
+        Err(refused) if refused.refusal == Refusal::TooShort => Item::Refused(refused),
+        Err(refused) => Item::RefusedCommand {
+            refused,
+            next: next_escape(bytes, refused.place),
         },
     }
 }
@@ -84,7 +84,7 @@ mod tests {
 
     fn refused(refusal: Refusal, place: usize, next: usize) -> Item {
         Item::RefusedCommand {
-            trouble: Trouble { refusal, place },
+            refused: ReadingRefused { refusal, place },
             next,
         }
     }
@@ -116,7 +116,7 @@ mod tests {
         let item = next_item(&bytes, 0, &mut Point { x: 0, y: 0 }, &mut list);
         let place = 0;
         let refusal = Refusal::TooShort;
-        assert_eq!(item, Item::Refused(Trouble { refusal, place }));
+        assert_eq!(item, Item::Refused(ReadingRefused { refusal, place }));
         assert_eq!(list, [7]);
     }
 

@@ -1,6 +1,6 @@
 //! Points: read from the last one, and spelled with all left out that may be.
 
-use super::refusals::{trouble, Refusal, Trouble};
+use super::refusals::{refused, ReadingRefused, Refusal};
 use super::wire::Reader;
 
 #[derive(Clone, Copy, Debug, PartialEq, Eq)]
@@ -50,7 +50,7 @@ fn coordinate(hi: u8, lo: u8, lowest: u8) -> u16 {
 }
 
 impl Reader<'_> {
-    pub fn point(&mut self, last: Point) -> Result<Point, Trouble> {
+    pub fn point(&mut self, last: Point) -> Result<Point, ReadingRefused> {
         let mut bytes = PointBytes::of(last);
         let mut taken = self.take()?;
         if taken.byte < 64 {
@@ -72,7 +72,7 @@ impl Reader<'_> {
             }
         }
         if !(64..96).contains(&taken.byte) {
-            return trouble(Refusal::ByteNotAllowed, taken.place);
+            return refused(Refusal::ByteNotAllowed, taken.place);
         }
         bytes.lo_x = taken.byte;
         Ok(bytes.point())
@@ -138,7 +138,7 @@ mod tests {
         };
         assert_eq!(
             reader.point(Point::FRESH),
-            trouble(Refusal::ByteNotAllowed, 1)
+            refused(Refusal::ByteNotAllowed, 1)
         );
     }
 }

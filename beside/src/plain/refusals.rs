@@ -30,11 +30,11 @@ impl Refusal {
 
 /// A refusal while reading, and its place.
 #[derive(Clone, Copy, Debug, PartialEq, Eq)]
-pub struct Trouble {
+pub struct ReadingRefused {
     pub refusal: Refusal,
     pub place: usize,
 }
 
-pub fn trouble<T>(refusal: Refusal, place: usize) -> Result<T, Trouble> {
-    Err(Trouble { refusal, place })
+pub fn refused<T>(refusal: Refusal, place: usize) -> Result<T, ReadingRefused> {
+    Err(ReadingRefused { refusal, place })
 }

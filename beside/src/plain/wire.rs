@@ -1,6 +1,6 @@
 //! The bytes of parameters, taken one after the other.
 
-use super::refusals::{trouble, Refusal, Trouble};
+use super::refusals::{refused, ReadingRefused, Refusal};
 
 pub const ESC: u8 = 27;
 
@@ -21,29 +21,29 @@ pub struct Taken {
 }
 
 impl Reader<'_> {
-    pub fn take(&mut self) -> Result<Taken, Trouble> {
+    pub fn take(&mut self) -> Result<Taken, ReadingRefused> {
         let place = self.at;
         match self.bytes.get(place) {
-            None => trouble(Refusal::BytesEnd, self.bytes.len()),
+            None => refused(Refusal::BytesEnd, self.bytes.len()),
             Some(&ESC) => self.take_pair(),
             Some(&byte) if (32..=127).contains(&byte) => {
                 self.at += 1;
                 Ok(Taken { byte, place })
             }
-            Some(_) => trouble(Refusal::ByteNotAllowed, place),
+            Some(_) => refused(Refusal::ByteNotAllowed, place),
         }
     }
 
     /// "For the pair 27 63 the place is that of the 63."
-    fn take_pair(&mut self) -> Result<Taken, Trouble> {
+    fn take_pair(&mut self) -> Result<Taken, ReadingRefused> {
         let place = self.at + 1;
         match self.bytes.get(place) {
-            None => trouble(Refusal::BytesEnd, self.bytes.len()),
+            None => refused(Refusal::BytesEnd, self.bytes.len()),
             Some(&PAIRED) => {
                 self.at += 2;
                 Ok(Taken { byte: DEL, place })
             }
-            Some(_) => trouble(Refusal::NewEscape, self.at),
+            Some(_) => refused(Refusal::NewEscape, self.at),
         }
     }
 }

@@ -1,4 +1,4 @@
-// Writing a command in its shortest spelling. Pouring lays bytes as far as there is room and says how many they are.
+// Writing a command in its shortest spelling. Pouring stores bytes as far as there is room and says how many they are.
 ghost use mathlib.Core.Path.{_≡_};
 ghost use mathlib.Core.Bool.{true};
 ghost use mathlib.Core.List.{_++_};
