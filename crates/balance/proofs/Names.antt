@@ -1,23 +1,24 @@
--- What a call names: as many colours as it returns, and no gaps where it has no 96.
+-- What a call names: as many colours as it returns, and no gaps where it is refused or has no 96.
 use Prim.Native.Nat.{ℕ, zero, suc, _+_, _-_, _*_, _/_, _%_, _^_, _≤_, _<_, min}
 use mathlib.Core.Path.{_≡_, refl, sym, _∙_, ap}
-use mathlib.Core.Bool.{Bool, true, false, not}
+use mathlib.Core.Bool.{Bool, true, false, not, _||_}
 use mathlib.Core.List.{List, [], _∷_, _++_, map}
 use native.Mathlib.Nat.{zero-add, mul-zero, mul-suc, div-add-mod, mod-lt, min-eq-left}
 use native.Mathlib.Omega.{arith}
 use lib.ListN.{length, length-append, replicate}
 use lib.Dec.{eqb}
-use lib.IntN.{ℤ, natAbs}
+use lib.IntN.{ℤ, pos, negsuc, natAbs}
 use borrow.Author.Tests.{eqb-true, not-true}
 use Rattle.refusals.specs.Answers.{pick, every}
-use Rattle.refusals.proofs.Cases.{by-pick, and-left, and-right}
+use Rattle.refusals.proofs.Cases.{by-pick, and-left, and-right, bool-apart}
+use Rattle.refusals.proofs.Many.{every-split}
 use Rattle.beam.specs.declared.Beam.{Beam}
-use Rattle.pixel_refusals.specs.Tests.{perCharacter, endOfRow, pixelCharacters, rasterRefusal}
+use Rattle.pixel_refusals.specs.Tests.{perCharacter, endOfRow, isRaster, pixelCharacters, rasterRefusal}
 use Rattle.pixels.specs.Marks.{Mark, ink, gap, moved, rowEnd, colours}
 use Rattle.pixels.specs.Writes.{pixels, characterMarks, leftAfter, rasterMarks, run, runMarks, runTotal, written, drawRaster, drawRuns, rasterOf}
 use Rattle.pixels.proofs.Laying.{moved-bits}
-use Rattle.pixel_refusals.proofs.Looking.{some-per-character, raster-passed, raster-enough}
-use Rattle.balance.specs.Balance.{Call, raster, runs, bits, State, rasterOutcome, runsOutcome, after, returned, named, namedBy, inks, noRowEnd}
+use Rattle.pixel_refusals.proofs.Looking.{some-per-character, raster-passed, raster-enough, raster-within}
+use Rattle.balance.specs.Balance.{Call, raster, runs, bits, State, rasterOutcome, runsOutcome, refusal, after, returned, named, namedBy, inks, isRowEnd, noRowEnd, noRowEnds}
 
 colours-append : (xs ys : List Mark) → colours (xs ++ ys) ≡ colours xs ++ colours ys
 unfolding colours
@@ -64,12 +65,18 @@ inked-character : (beam : Beam) (n ch : ℕ) → eqb ch endOfRow ≡ false → I
 unfolding characterMarks
 inked-character beam n ch e = rw e (inked-pixels (beam .bits) (min n (6 / beam .bits)) 6 (ch - 32))
 
-inked-raster : (beam : Beam) (n : ℕ) (chs : List ℤ) → every (λ v. not (eqb (natAbs v) endOfRow)) chs ≡ true → Inked (rasterMarks beam n (map natAbs chs))
-unfolding rasterMarks every
-inked-raster beam n [] e = inked-none
-inked-raster beam n (ch ∷ chs) e =
-    let other = not (eqb (natAbs ch) endOfRow) in
-    inked-append _ _ (inked-character beam n (natAbs ch) (not-true (eqb (natAbs ch) endOfRow) (and-left other _ e))) (inked-raster _ _ chs (and-right other _ e))
+-- a character that is allowed and is not 96; -96 is not allowed
+other-than : (v : ℤ) → isRaster v ≡ true → not (isRowEnd v) ≡ true → eqb (natAbs v) endOfRow ≡ false
+other-than (pos n) a e = not-true (eqb n endOfRow) e
+other-than (negsuc n) a e = absurd (bool-apart a)
+
+inked-raster : (beam : Beam) (n : ℕ) (chs : List ℤ) → every isRaster chs ≡ true → every (λ v. not (isRowEnd v)) chs ≡ true → Inked (rasterMarks beam n (map natAbs chs))
+unfolding rasterMarks
+inked-raster beam n [] a e = inked-none
+inked-raster beam n (ch ∷ chs) a e =
+    let allowed = every-split isRaster ch chs a in
+    let others = every-split (λ v. not (isRowEnd v)) ch chs e in
+    inked-append _ _ (inked-character beam n (natAbs ch) (other-than ch (allowed .0) (others .0))) (inked-raster _ _ chs (allowed .1) (others .1))
 
 inked-run : (c n : ℕ) → Inked (run c n)
 unfolding Inked
@@ -81,20 +88,29 @@ unfolding runMarks
 inked-runs b [] = inked-none
 inked-runs b (k ∷ ks) = inked-append _ _ (inked-run (k % 2 ^ b) (k / 2 ^ b)) (inked-runs b ks)
 
-inked-pick : (b : Bool) (ms : List Mark) → Inked ms → Inked (pick b ms [])
-inked-pick b ms i = by-pick Inked b ms [] (λ e. i) (λ e. inked-none)
+-- where a call is accepted, it has no 96
+accepted-so : (accepted without : Bool) → not accepted || without ≡ true → accepted ≡ true → without ≡ true
+accepted-so true without e a = e
+accepted-so false without e a = absurd (bool-apart a)
 
-inked-named : (w h : ℕ) (call : Call) (st : State) → noRowEnd call ≡ true → Inked (named w h call st)
-unfolding named noRowEnd
-inked-named w h (raster n chs) st e = inked-pick (eqb (rasterOutcome w h n chs st .number) 0) _ (inked-raster (st .beam) (natAbs n) chs e)
-inked-named w h (runs codes) st e = inked-pick (eqb (runsOutcome w h codes st .number) 0) _ (inked-runs (st .beam .bits) (map natAbs codes))
+inked-pick : (b : Bool) (ms : List Mark) → (b ≡ true → Inked ms) → Inked (pick b ms [])
+inked-pick b ms i = by-pick Inked b ms [] i (λ e. inked-none)
+
+inked-named : (w h : ℕ) (call : Call) (st : State) → not (eqb (refusal w h call st) 0) || noRowEnd call ≡ true → Inked (named w h call st)
+unfolding named refusal noRowEnd drawRaster written
+inked-named w h (raster n chs) st e =
+    let number = rasterOutcome w h n chs st .number in
+    inked-pick (eqb number 0) _
+    (λ a. inked-raster (st .beam) (natAbs n) chs (raster-within w h (length (st .surface)) (st .beam) n chs (eqb-true number 0 a)) (accepted-so (eqb number 0) _ e a))
+inked-named w h (runs codes) st e = inked-pick (eqb (runsOutcome w h codes st .number) 0) _ (λ a. inked-runs (st .beam .bits) (map natAbs codes))
 inked-named w h (bits first second third) st e = inked-none
 
-pub inked-by : (w h : ℕ) (calls : List Call) (st : State) → every noRowEnd calls ≡ true → Inked (namedBy w h calls st)
-unfolding namedBy every
+pub inked-by : (w h : ℕ) (calls : List Call) (st : State) → noRowEnds w h calls st ≡ true → Inked (namedBy w h calls st)
+unfolding namedBy noRowEnds
 inked-by w h [] st e = inked-none
 inked-by w h (call ∷ calls) st e =
-    inked-append _ _ (inked-named w h call st (and-left (noRowEnd call) _ e)) (inked-by w h calls (after w h call st) (and-right (noRowEnd call) _ e))
+    let here = not (eqb (refusal w h call st) 0) || noRowEnd call in
+    inked-append _ _ (inked-named w h call st (and-left here _ e)) (inked-by w h calls (after w h call st) (and-right here _ e))
 
 -- ---- how many: run codes
 

@@ -3,16 +3,16 @@ use Prim.Native.Nat.{ℕ, _+_, _<_, min}
 use mathlib.Core.Path.{_≡_, refl, sym, _∙_, ap}
 use mathlib.Core.Bool.{true}
 use mathlib.Core.List.{List, [], _∷_}
-use lib.ListN.{length, getD, set, replicate, length-map}
+use lib.ListN.{length, getD, set, replicate}
 use Rattle.refusals.proofs.Cases.{bool-apart}
 use Rattle.beam.specs.declared.Beam.{Beam}
 use Rattle.beam.specs.Validity.{isValid}
 use Rattle.beam.specs.Settings.{stepped}
 use Rattle.pixel_refusals.specs.Tests.{isSurface}
-use Rattle.pixels.specs.Marks.{Mark, ink, gap, act, place, laid, moved}
+use Rattle.pixels.specs.Marks.{Mark, gap, act, place, laid, moved, colours}
 use Rattle.pixels.specs.Standing.{Ready}
 use Rattle.pixels.proofs.Laying.{place-lt, laid-length, moved-inside, ready-of}
-use Rattle.balance.specs.Balance.{Call, State, ran, namedBy, count, lastOf, area, steps, track, isReached, elsewhere, lastLaid, coloured, kept, isOutside, bitsAside, inks, Balanced}
+use Rattle.balance.specs.Balance.{Call, State, ran, namedBy, count, lastOf, area, steps, track, isReached, elsewhere, lastLaid, coloured, kept, isOutside, bitsAside, inks, noRowEnds, LeaveTheSame, Balanced}
 use Rattle.balance.proofs.Track.{along, elsewhere-ext, balance-any, along-last, along-other, coloured-inks, kept-last}
 use Rattle.balance.proofs.Round.{track-round, track-inside}
 use Rattle.balance.proofs.Names.{inked-all, inked-by, returns-named}
@@ -62,6 +62,21 @@ module _ (w h : ℕ) (st : State) where
   beam-moved : (calls : List Call) → bitsAside (ran w h calls st .beam) ≡ bitsAside (steps (length (namedBy w h calls st)) (st .beam))
   beam-moved calls = ran-beam w h calls st ∙ ap bitsAside (moved-steps (namedBy w h calls st) (st .beam))
 
+  -- calls that name the same marks leave the same
+  same-marks : (calls others : List Call) → namedBy w h others st ≡ namedBy w h calls st → LeaveTheSame w h st calls others
+  same-marks calls others q = (
+    ran-surface w h others st ∙ ap (λ (l : List Mark). laid w h l (st .beam) (st .surface)) q ∙ sym (ran-surface w h calls st),
+    beam-moved others ∙ ap (λ (l : List Mark). bitsAside (steps (length l) (st .beam))) q ∙ sym (beam-moved calls),
+  )
+
+  no-gaps : (calls : List Call) → noRowEnds w h calls st ≡ true → namedBy w h calls st ≡ inks (colours (namedBy w h calls st))
+  no-gaps calls p = inked-all (namedBy w h calls st) (inked-by w h calls st p)
+
+  -- without gaps the colours are the marks
+  colours-marks : (calls others : List Call) → noRowEnds w h calls st ≡ true → noRowEnds w h others st ≡ true
+      → colours (namedBy w h others st) ≡ colours (namedBy w h calls st) → namedBy w h others st ≡ namedBy w h calls st
+  colours-marks calls others p o k = no-gaps others o ∙ ap inks k ∙ sym (no-gaps calls p)
+
 pub balanced : (w h : ℕ) (st : State) (calls : List Call)
     → isSurface w h (length (st .surface)) ≡ true → isValid w h (st .beam) ≡ true → Balanced w h st calls
 balanced w h st calls s v =
@@ -75,9 +90,9 @@ balanced w h st calls s v =
       size = ap length e ∙ laid-length w h ms (st .beam) (st .surface);
       surface-laid = e;
       beam-moved = beam-moved w h st calls;
-      same-surface = λ others q. ran-surface w h others st ∙ ap (λ (l : List Mark). laid w h l (st .beam) (st .surface)) q ∙ sym e;
-      same-beam = λ others q. beam-moved w h st others ∙ ap (λ (l : List Mark). bitsAside (steps (length l) (st .beam))) q ∙ sym (beam-moved w h st calls);
+      same-marks = same-marks w h st calls;
       numbers = returns-named w h;
-      without-gaps = λ cs q c. rw (e, q, length-map cs ink) (balance-inks (st .surface) r c cs);
-      no-gaps = λ p. inked-all ms (inked-by w h calls st p);
+      no-gaps = no-gaps w h st calls;
+      without-gaps = λ p c. ap (count c) (e ∙ ap (λ (l : List Mark). laid w h l (st .beam) (st .surface)) (no-gaps w h st calls p)) ∙ balance-inks (st .surface) r c (colours ms);
+      same-colours = λ p others o k. same-marks w h st calls others (colours-marks w h st calls others p o k);
     }

@@ -7,11 +7,11 @@
 -- the beam and not for the number returned." What both say: the record Balanced. proofs/Theorem.antt proves it.
 use Prim.Native.Nat.{ℕ, zero, suc, _+_, _-_, _*_, _/_, _%_, min}
 use mathlib.Core.Path.{_≡_}
-use mathlib.Core.Bool.{Bool, true, false, not, _||_}
+use mathlib.Core.Bool.{Bool, true, false, not, _&&_, _||_}
 use mathlib.Core.List.{List, [], _∷_, _++_, map}
 use lib.ListN.{length, getD, drop, replicate}
 use lib.Dec.{eqb}
-use lib.IntN.{ℤ, natAbs}
+use lib.IntN.{ℤ, pos, negsuc}
 use Rattle.refusals.specs.Answers.{pick, every}
 use Rattle.beam.specs.declared.Beam.{Beam}
 use Rattle.beam.specs.Validity.{inViewport}
@@ -37,6 +37,12 @@ rasterOutcome w h n chs st = drawRaster w h (st .beam) n chs (length (st .surfac
 
 abbrev pub runsOutcome : (w h : ℕ) → List ℤ → State → WriteOutcome
 runsOutcome w h codes st = drawRuns w h (st .beam) codes (length (st .surface))
+
+-- 0 or the number of a call's refusal
+unfoldable pub refusal : (w h : ℕ) → Call → State → ℕ
+refusal w h (raster n chs) st = rasterOutcome w h n chs st .number
+refusal w h (runs codes) st = runsOutcome w h codes st .number
+refusal w h (bits first second third) st = setBits w h (st .beam) first second third .number
 
 -- what a call leaves
 unfoldable pub after : (w h : ℕ) → Call → State → State
@@ -132,11 +138,21 @@ bitsAside beam = withBits 0 beam
 abbrev pub inks : List ℕ → List Mark
 inks cs = map ink cs
 
--- a call without a 96, and without a -96, which is refused
+-- the character 96
+abbrev pub isRowEnd : ℤ → Bool
+isRowEnd (pos n) = eqb n endOfRow
+isRowEnd (negsuc n) = false
+
+-- a call without a 96
 unfoldable pub noRowEnd : Call → Bool
-noRowEnd (raster n chs) = every (λ v. not (eqb (natAbs v) endOfRow)) chs
+noRowEnd (raster n chs) = every (λ v. not (isRowEnd v)) chs
 noRowEnd (runs codes) = true
 noRowEnd (bits first second third) = true
+
+-- of calls one after another, each on what the last one left, those that are accepted are without a 96
+unfoldable pub noRowEnds : (w h : ℕ) → List Call → State → Bool
+noRowEnds w h [] st = true
+noRowEnds w h (call ∷ calls) st = (not (eqb (refusal w h call st) 0) || noRowEnd call) && noRowEnds w h calls (after w h call st)
 
 module _ (w h : ℕ) (st : State) (calls : List Call) where
   -- the state in the end, and the marks named
@@ -146,6 +162,10 @@ module _ (w h : ℕ) (st : State) (calls : List Call) where
   abbrev ms : List Mark
   ms = namedBy w h calls st
 
+  -- "List the colours that the accepted writes name, in order; refused writes name none."
+  abbrev cs : List ℕ
+  cs = colours ms
+
   -- the beam's places, one after the other, and how many of them the beam goes on: "T counts gaps for the beam"
   abbrev f : ℕ → ℕ
   f = track w h (st .beam)
@@ -153,9 +173,13 @@ module _ (w h : ℕ) (st : State) (calls : List Call) where
   abbrev T : ℕ
   T = length ms
 
-  -- how many places the viewport has
+  -- "A the viewport's area"
   abbrev A : ℕ
   A = area (st .beam)
+
+  -- other calls, from the same state, leave the same surface and the same beam; the record's bits aside
+  abbrev pub LeaveTheSame : List Call → Type 0
+  LeaveTheSame others = (ran w h others st .surface ≡ end .surface) × (bitsAside (ran w h others st .beam) ≡ bitsAside (end .beam))
 
   pub record Balanced : Type 0 where
     -- "each place holds the last colour laid on it, gaps aside"
@@ -168,13 +192,16 @@ module _ (w h : ℕ) (st : State) (calls : List Call) where
     -- what is left is what laying the list leaves, and the beam is T steps on, the record's bits aside
     pub surface-laid : end .surface ≡ laid w h ms (st .beam) (st .surface)
     pub beam-moved : bitsAside (end .beam) ≡ bitsAside (steps T (st .beam))
-    -- so "the same list cut into other writes, run or raster, leaves the same surface", and the same beam
-    pub same-surface : (others : List Call) → namedBy w h others st ≡ ms → ran w h others st .surface ≡ end .surface
-    pub same-beam : (others : List Call) → namedBy w h others st ≡ ms → bitsAside (ran w h others st .beam) ≡ bitsAside (end .beam)
+    -- so calls that name the same list, gaps too, leave the same
+    pub same-marks : (others : List Call) → namedBy w h others st ≡ ms → LeaveTheSame others
     -- a write "returns its number of pixels": as many as the colours that it names, gaps aside, whatever state it meets
     pub numbers : (call : Call) (met : State) → returned w h call met ≡ length (colours (named w h call met))
-    -- where the marks are all colours, "each colour's count on the surface equals its count among the last T or A of the list, the smaller, plus its
-    -- count on the places not reached"
-    pub without-gaps : (cs : List ℕ) → ms ≡ inks cs → (c : ℕ) → count c (end .surface) ≡ count c (lastOf (min T A) cs) + count c (elsewhere (isReached f T) (st .surface))
-    -- and they are where no call has a 96
-    pub no-gaps : every noRowEnd calls ≡ true → ms ≡ inks (colours ms)
+    -- Where the accepted calls are without a 96, the list has no gaps,
+    pub no-gaps : noRowEnds w h calls st ≡ true → ms ≡ inks cs
+    -- and "Let T be their number", that of the colours: "each colour's count on the surface equals its count among the last T or A of the list, the
+    -- smaller, plus its count on the places not reached";
+    pub without-gaps : noRowEnds w h calls st ≡ true → (c : ℕ)
+        → count c (end .surface) ≡ count c (lastOf (min (length cs) A) cs) + count c (elsewhere (isReached f (length cs)) (st .surface))
+    -- and where those of the others are too, "the same list cut into other writes, run or raster, leaves the same surface", and the same beam
+    pub same-colours : noRowEnds w h calls st ≡ true → (others : List Call) → noRowEnds w h others st ≡ true → colours (namedBy w h others st) ≡ cs
+        → LeaveTheSame others

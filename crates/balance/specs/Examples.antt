@@ -9,7 +9,7 @@ use Rattle.beam.specs.Settings.{settled, bitsFrom, setBits, stepped}
 use Rattle.pixel_refusals.specs.Tests.{isSurface, pixelCharacters, rasterNumbers, rasterCharacters, runNumbers, writeRefusal, rasterRefusal, runRefusal}
 use Rattle.pixels.specs.Marks.{Mark, ink, gap, place, laid, moved, rowEnd}
 use Rattle.pixels.specs.Writes.{pixels, characterMarks, leftAfter, rasterMarks, runMarks, runTotal, written, surfaceAfter, drawRaster, rasterSurface, drawRuns, runsSurface}
-use Rattle.balance.specs.Balance.{Call, raster, runs, bits, State, rasterOutcome, runsOutcome, after, returned, named, ran, namedBy, count, track, elsewhere, coloured, kept, inks}
+use Rattle.balance.specs.Balance.{Call, raster, runs, bits, State, refusal, after, returned, named, ran, namedBy, count, track, elsewhere, coloured, kept, inks}
 
 -- 4 by 3 bytes; the viewport is columns 1 and 2 of the two lower rows, and the beam stands at its upper right
 abbrev pub start : State
@@ -17,12 +17,6 @@ start = record {
   beam = record { bits = 0; left = 1; bottom = 0; right = 2; top = 1; x = 2; y = 1 };
   surface = 9 ∷ 9 ∷ 9 ∷ 9 ∷ 9 ∷ 5 ∷ 6 ∷ 9 ∷ 9 ∷ 7 ∷ 5 ∷ 5 ∷ [];
 }
-
--- 0 or the number of the call's refusal
-unfoldable pub refusal : (w h : ℕ) → Call → State → ℕ
-refusal w h (raster n chs) st = rasterOutcome w h n chs st .number
-refusal w h (runs codes) st = runsOutcome w h codes st .number
-refusal w h (bits first second third) st = setBits w h (st .beam) first second third .number
 
 -- what is asked of each call, on what the last one left
 unfoldable pub each : (asked : (w h : ℕ) → Call → State → ℕ) → (w h : ℕ) → List Call → State → List ℕ
