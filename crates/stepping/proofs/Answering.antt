@@ -1,4 +1,4 @@
--- The two parts of what the step by value gives, by its answer.
+-- What the step by value gives, by its answer.
 use Prim.Native.Nat.{ℕ}
 use mathlib.Core.Path.{_≡_}
 use Rattle.refusals.specs.declared.Refusal.{Refusal}
@@ -7,24 +7,15 @@ use Rattle.beam.specs.declared.Beam.{Beam}
 use Rattle.beam.specs.declared.Setting.{Setting}
 use Rattle.beam.specs.declared.Setting.the-variants.{Set, Refused}
 use Rattle.beam.specs.Settings.{settingOf, makeStep}
+use Rattle.stepping.specs.declared.Moved.{Moved}
+use Rattle.stepping.specs.Stepping.{movedOf}
 
 module _ (w h : ℕ) (beam : Beam) {s : Setting} (es : settingOf s ≡ makeStep w h beam) where
-  pub number-set : (new : Beam) → s ≡ Set new → 0 ≡ makeStep w h beam .number
-  unfolding settingOf
-  number-set new g = rw (← es, g)
+  pub moved-set : (new : Beam) → s ≡ Set new → record { number = 0; x = new .x; y = new .y } ≡ movedOf (makeStep w h beam)
+  unfolding settingOf movedOf
+  moved-set new g = rw (← es, g)
 
-  pub number-refused : (e : Refusal) (old : Beam) {n : ℕ} → s ≡ Refused e old → n ≡ numberOf e → n ≡ makeStep w h beam .number
-  unfolding settingOf
-  number-refused e old g en = rw (← es, g) en
-
-  pub after-set : (new : Beam) → s ≡ Set new → new ≡ makeStep w h beam .after
-  unfolding settingOf
-  after-set new g = rw (← es, g)
-
-  pub after-refused : (e : Refusal) (old : Beam) → s ≡ Refused e old → old ≡ makeStep w h beam .after
-  unfolding settingOf
-  after-refused e old g = rw (← es, g)
-
-pub ruleset numbers = (number-set, number-refused)
-
-pub ruleset afters = (after-set, after-refused)
+  pub moved-refused : (e : Refusal) (old : Beam) {n : ℕ} → s ≡ Refused e old → n ≡ numberOf e
+      → record { number = n; x = old .x; y = old .y } ≡ movedOf (makeStep w h beam)
+  unfolding settingOf movedOf
+  moved-refused e old g en = rw (← es, g, en)
