@@ -1,4 +1,4 @@
--- A record stays valid, as specs/Records.antt states it: first behind one accepted request, then behind any, then behind any list of them.
+-- A record stays valid, as specs/Records.antt states it: first behind an accepted call, then behind any, then behind any list of calls.
 use Prim.Native.Nat.{ℕ, _<_}
 use mathlib.Core.Path.{_≡_, refl, sym, _∙_}
 use mathlib.Core.Bool.{Bool, true, false, not, _&&_, _||_}
@@ -24,7 +24,7 @@ use Rattle.pixels.specs.Standing.{BeamInside}
 use Rattle.pixels.proofs.Laying.{step-inside, step-bits, moved-inside, moved-bits, inside-of}
 use Rattle.balance.specs.Balance.{Call, raster, runs, bits, State, refusal, after, ran}
 use Rattle.balance.proofs.Theorem.{balanced}
-use Rattle.pixel_laws.specs.Records.{Request, fresh, rs, rh, step, call, answered, surfaceBehind, behind, went, byValues, StaysValid}
+use Rattle.pixel_laws.specs.Records.{RecordCall, fresh, rs, rh, step, ofBalance, answered, surfaceBehind, behind, went, byValues, StaysValid}
 
 -- ---- a valid record, as what its tests tell
 
@@ -89,7 +89,7 @@ module _ (w h : ℕ) (r : Beam) (v : isValid w h r ≡ true) where
   stepped-valid : isValid w h (stepped r) ≡ true
   stepped-valid = valid-of w h (stepped r) (step-inside (inside-of w h r v)) (rw (step-bits r) (bits-of w h r v))
 
--- ---- an accepted request
+-- ---- an accepted call
 
 settled-valid : (w h : ℕ) (r : Beam) (allowed : Bool) (new : Beam) → (isValid w h r ≡ true → allowed ≡ true → isValid w h new ≡ true)
     → settled w h r allowed new .number ≡ 0 → isValid w h (settled w h r allowed new .after) ≡ true
@@ -105,17 +105,17 @@ written-valid : (w h f : ℕ) (ms : List Mark) (r : Beam) → isValid w h r ≡ 
 written-valid w h f ms r v e = rw (eq-eqb f 0 e) (moved-valid w h r v ms)
 
 -- after an accepted fresh, RS, RH, step, RP, RL or RU the record is valid for the same W and H
-pub accepted-valid : (w h : ℕ) (request : Request) (st : State) → answered w h request st .number ≡ 0 → isValid w h (answered w h request st .after) ≡ true
+pub accepted-valid : (w h : ℕ) (call : RecordCall) (st : State) → answered w h call st .number ≡ 0 → isValid w h (answered w h call st .after) ≡ true
 unfolding answered makeFresh setViewport setBeam makeStep refusal after setBits drawRaster drawRuns written
 accepted-valid w h fresh st e = rw (eq-eqb _ 0 e) (fresh-valid w h (met (isSize w h) 11 0 (λ q. omega arith) e .0))
 accepted-valid w h (rs a b) st e = settled-valid w h (st .beam) _ _ (λ v. framed-valid w h (st .beam) v a b) e
 accepted-valid w h (rh p) st e = settled-valid w h (st .beam) _ _ (λ v. placed-valid w h (st .beam) v (p .x) (p .y)) e
 accepted-valid w h step st e = settled-valid w h (st .beam) _ _ (λ v _. stepped-valid w h (st .beam) v) e
-accepted-valid w h (call (raster n chs)) st e = written-valid w h _ _ (st .beam) (raster-passed w h (length (st .surface)) (st .beam) n chs e .valid) e
-accepted-valid w h (call (runs codes)) st e = written-valid w h _ _ (st .beam) (runs-passed w h (length (st .surface)) (st .beam) codes e .valid) e
-accepted-valid w h (call (bits first second third)) st e = settled-valid w h (st .beam) _ _ (λ v. bits-valid w h (st .beam) v third) e
+accepted-valid w h (ofBalance (raster n chs)) st e = written-valid w h _ _ (st .beam) (raster-passed w h (length (st .surface)) (st .beam) n chs e .valid) e
+accepted-valid w h (ofBalance (runs codes)) st e = written-valid w h _ _ (st .beam) (runs-passed w h (length (st .surface)) (st .beam) codes e .valid) e
+accepted-valid w h (ofBalance (bits first second third)) st e = settled-valid w h (st .beam) _ _ (λ v. bits-valid w h (st .beam) v third) e
 
--- ---- any request on a surface of the right size and a valid record
+-- ---- any call on a surface of the right size and a valid record
 
 module _ (w h : ℕ) (st : State) (s : isSurface w h (length (st .surface)) ≡ true) (v : isValid w h (st .beam) ≡ true) where
   size-ok : isSize w h ≡ true
@@ -131,41 +131,41 @@ module _ (w h : ℕ) (st : State) (s : isSurface w h (length (st .surface)) ≡ 
   unfolding writeRefusal
   written-number next = rw (s, v)
 
-  numbers : (request : Request) → answered w h request st .number ≡ byValues w h request (st .beam)
+  numbers : (call : RecordCall) → answered w h call st .number ≡ byValues w h call (st .beam)
   unfolding answered byValues makeFresh setViewport setBeam makeStep refusal setBits drawRaster drawRuns written rasterRefusal runRefusal
   numbers fresh = rw size-ok
   numbers (rs a b) = settled-number _ _
   numbers (rh p) = settled-number _ _
   numbers step = settled-number true _
-  numbers (call (raster n chs)) = written-number _
-  numbers (call (runs codes)) = written-number _
-  numbers (call (bits first second third)) = settled-number _ _
+  numbers (ofBalance (raster n chs)) = written-number _
+  numbers (ofBalance (runs codes)) = written-number _
+  numbers (ofBalance (bits first second third)) = settled-number _ _
 
   -- refused, the record is as it came; a fresh one is not refused here
-  kept : (request : Request) → eqb (answered w h request st .number) 0 ≡ false → answered w h request st .after ≡ st .beam
+  kept : (call : RecordCall) → eqb (answered w h call st .number) 0 ≡ false → answered w h call st .after ≡ st .beam
   unfolding answered makeFresh setViewport setBeam makeStep settled refusal after setBits drawRaster drawRuns written
   kept fresh e = absurd (bool-apart (sym e ∙ rw size-ok))
   kept (rs a b) e = rw e
   kept (rh p) e = rw e
   kept step e = rw e
-  kept (call (raster n chs)) e = rw e
-  kept (call (runs codes)) e = rw e
-  kept (call (bits first second third)) e = rw e
+  kept (ofBalance (raster n chs)) e = rw e
+  kept (ofBalance (runs codes)) e = rw e
+  kept (ofBalance (bits first second third)) e = rw e
 
-  pub next-valid : (request : Request) → isValid w h (answered w h request st .after) ≡ true
-  next-valid request = go (eqb (answered w h request st .number) 0) refl
+  pub next-valid : (call : RecordCall) → isValid w h (answered w h call st .after) ≡ true
+  next-valid call = go (eqb (answered w h call st .number) 0) refl
     where
-      go : (b : Bool) → eqb (answered w h request st .number) 0 ≡ b → isValid w h (answered w h request st .after) ≡ true
-      go true e = accepted-valid w h request st (eqb-true _ 0 e)
-      go false e = rw (kept request e) v
+      go : (b : Bool) → eqb (answered w h call st .number) 0 ≡ b → isValid w h (answered w h call st .after) ≡ true
+      go true e = accepted-valid w h call st (eqb-true _ 0 e)
+      go false e = rw (kept call e) v
 
-  next-surface : (request : Request) → isSurface w h (length (surfaceBehind w h request st)) ≡ true
+  next-surface : (call : RecordCall) → isSurface w h (length (surfaceBehind w h call st)) ≡ true
   unfolding surfaceBehind ran
   next-surface fresh = s
   next-surface (rs a b) = s
   next-surface (rh p) = s
   next-surface step = s
-  next-surface (call c) = rw (balanced w h st (c ∷ []) s v .size) s
+  next-surface (ofBalance c) = rw (balanced w h st (c ∷ []) s v .size) s
 
 -- ---- what the values alone give is no 11
 
@@ -173,22 +173,22 @@ below-11 : (ok : Bool) (e next : ℕ) → e < 11 → next < 11 → demand ok e n
 below-11 true e next l m = m
 below-11 false e next l m = l
 
-values-below-11 : (w h : ℕ) (request : Request) (r : Beam) → byValues w h request r < 11
+values-below-11 : (w h : ℕ) (call : RecordCall) (r : Beam) → byValues w h call r < 11
 unfolding byValues
 values-below-11 w h fresh r = omega arith
 values-below-11 w h (rs a b) r = below-11 (cornersOn w h a b) 8 0 (omega arith) (omega arith)
 values-below-11 w h (rh p) r = below-11 (inViewport r (p .x) (p .y)) 8 0 (omega arith) (omega arith)
 values-below-11 w h step r = omega arith
-values-below-11 w h (call (raster n chs)) r =
+values-below-11 w h (ofBalance (raster n chs)) r =
     let characters = below-11 (rasterCharacters (r .bits) n chs) 10 0 (omega arith) (omega arith) in
     below-11 (not (eqb (r .bits) 0)) 9 _ (omega arith) (below-11 (rasterNumbers n chs) 8 _ (omega arith) characters)
-values-below-11 w h (call (runs codes)) r = below-11 (not (eqb (r .bits) 0)) 9 _ (omega arith) (below-11 (runNumbers codes) 8 0 (omega arith) (omega arith))
-values-below-11 w h (call (bits first second third)) r = below-11 (bitsFrom third) 8 0 (omega arith) (omega arith)
+values-below-11 w h (ofBalance (runs codes)) r = below-11 (not (eqb (r .bits) 0)) 9 _ (omega arith) (below-11 (runNumbers codes) 8 0 (omega arith) (omega arith))
+values-below-11 w h (ofBalance (bits first second third)) r = below-11 (bitsFrom third) 8 0 (omega arith) (omega arith)
 
--- ---- any requests, one after another
+-- ---- calls, one after another
 
-pub stays-valid : (w h : ℕ) (requests : List Request) (st : State) → isSurface w h (length (st .surface)) ≡ true → isValid w h (st .beam) ≡ true
-    → StaysValid w h st requests
+pub stays-valid : (w h : ℕ) (calls : List RecordCall) (st : State) → isSurface w h (length (st .surface)) ≡ true → isValid w h (st .beam) ≡ true
+    → StaysValid w h st calls
 unfolding went
 stays-valid w h [] st s v = record {
   valid = v;
@@ -196,12 +196,12 @@ stays-valid w h [] st s v = record {
   by-values = numbers w h st s v;
   never-11 = λ next q. omega (arith, numbers w h st s v next, q, values-below-11 w h next (st .beam));
 }
-stays-valid w h (request ∷ requests) st s v =
-    let rest = stays-valid w h requests (behind w h request st) (next-surface w h st s v request) (next-valid w h st s v request) in
+stays-valid w h (call ∷ calls) st s v =
+    let rest = stays-valid w h calls (behind w h call st) (next-surface w h st s v call) (next-valid w h st s v call) in
     record { valid = rest .valid; surface = rest .surface; by-values = rest .by-values; never-11 = rest .never-11 }
 
 -- a run that begins with an accepted fresh one, whatever the record was before
-pub stays-valid-fresh : (w h : ℕ) (requests : List Request) (st : State) → isSurface w h (length (st .surface)) ≡ true → answered w h fresh st .number ≡ 0
-    → StaysValid w h (behind w h fresh st) requests
+pub stays-valid-fresh : (w h : ℕ) (calls : List RecordCall) (st : State) → isSurface w h (length (st .surface)) ≡ true → answered w h fresh st .number ≡ 0
+    → StaysValid w h (behind w h fresh st) calls
 unfolding surfaceBehind
-stays-valid-fresh w h requests st s e = stays-valid w h requests (behind w h fresh st) s (accepted-valid w h fresh st e)
+stays-valid-fresh w h calls st s e = stays-valid w h calls (behind w h fresh st) s (accepted-valid w h fresh st e)
