@@ -13,7 +13,7 @@ use Rattle.pixel_refusals.specs.Tests.{isSurface}
 use Rattle.balance.specs.Balance.{Call, raster, runs, bits, State, refusal, after, returned, ran}
 use Rattle.balance.proofs.Theorem.{balanced}
 use Rattle.pixel_calls.specs.Fields.{beamIn, fieldsOf}
-use Rattle.pixel_laws.specs.Lending.{Lent, held, Promised, Made, none, one, BalancedLent}
+use Rattle.pixel_laws.specs.Lending.{Lent, held, Promised, Made, noCall, thenCall, BalancedLent}
 
 -- ---- slots and records
 
@@ -68,12 +68,12 @@ module _ (w h : ℕ) (before : Lent) (number count : ℕ) (behind : Lent) where
 
 made-state : (w h : ℕ) {calls : List Call} {before behind : Lent} → Made w h calls before behind → held behind ≡ ran w h calls (held before)
 unfolding ran
-made-state w h (none l) = refl
-made-state w h (one call calls before next behind number count p m) = made-state w h m ∙ ap (ran w h calls) (promised-state w h before number count next call p)
+made-state w h (noCall l) = refl
+made-state w h (thenCall call calls before next behind number count p m) = made-state w h m ∙ ap (ran w h calls) (promised-state w h before number count next call p)
 
 made-slots : (w h : ℕ) {calls : List Call} {before behind : Lent} → Made w h calls before behind → length (before .slots) ≡ 7 → length (behind .slots) ≡ 7
-made-slots w h (none l) e = e
-made-slots w h (one call calls before next behind number count p m) e = made-slots w h m (promised-slots w h before number count next call p)
+made-slots w h (noCall l) e = e
+made-slots w h (thenCall call calls before next behind number count p m) e = made-slots w h m (promised-slots w h before number count next call p)
 
 pub lent-balanced : (w h : ℕ) (calls : List Call) (before behind : Lent) → isSurface w h (length (before .surface)) ≡ true → isValid w h (beamIn (before .slots)) ≡ true
     → length (before .slots) ≡ 7 → Made w h calls before behind → BalancedLent w h calls before behind

@@ -24,7 +24,7 @@ use Rattle.pixels.specs.Standing.{BeamInside}
 use Rattle.pixels.proofs.Laying.{step-inside, step-bits, moved-inside, moved-bits, inside-of}
 use Rattle.balance.specs.Balance.{Call, raster, runs, bits, State, refusal, after, ran}
 use Rattle.balance.proofs.Theorem.{balanced}
-use Rattle.pixel_laws.specs.Records.{RecordCall, fresh, rs, rh, step, ofBalance, answered, surfaceBehind, behind, went, byValues, StaysValid}
+use Rattle.pixel_laws.specs.Records.{RecordCall, fresh, rs, rh, step, ofBalance, answered, surfaceBehind, leftBehind, went, byValues, StaysValid}
 
 -- ---- a valid record, as what its tests tell
 
@@ -197,11 +197,11 @@ stays-valid w h [] st s v = record {
   never-11 = λ next q. omega (arith, numbers w h st s v next, q, values-below-11 w h next (st .beam));
 }
 stays-valid w h (call ∷ calls) st s v =
-    let rest = stays-valid w h calls (behind w h call st) (next-surface w h st s v call) (next-valid w h st s v call) in
+    let rest = stays-valid w h calls (leftBehind w h call st) (next-surface w h st s v call) (next-valid w h st s v call) in
     record { valid = rest .valid; surface = rest .surface; by-values = rest .by-values; never-11 = rest .never-11 }
 
 -- a run that begins with an accepted fresh one, whatever the record was before
 pub stays-valid-fresh : (w h : ℕ) (calls : List RecordCall) (st : State) → isSurface w h (length (st .surface)) ≡ true → answered w h fresh st .number ≡ 0
-    → StaysValid w h (behind w h fresh st) calls
+    → StaysValid w h (leftBehind w h fresh st) calls
 unfolding surfaceBehind
-stays-valid-fresh w h calls st s e = stays-valid w h calls (behind w h fresh st) s (accepted-valid w h fresh st e)
+stays-valid-fresh w h calls st s e = stays-valid w h calls (leftBehind w h fresh st) s (accepted-valid w h fresh st e)

@@ -18,7 +18,8 @@ pub record Lent : Type 0 where
 abbrev pub held : Lent → State
 held l = record { beam = beamIn (l .slots); surface = l .surface }
 
--- a call's promise, as its head has it: the number returned, the count, and what is lent, before it and behind it; ardh_set_bits has no surface and no count
+-- a call's promise, as its head has it: what is lent before it, the number returned, the count, and what is lent behind it. ardh_set_bits is not
+-- lent the surface, and has no count.
 unfoldable pub Promised : (w h : ℕ) → Call → (before : Lent) → (number count : ℕ) → (behind : Lent) → Type 0
 Promised w h (raster n chs) before number count behind =
     HandsWritten (drawRaster w h (beamIn (before .slots)) n chs (length (before .surface))) number count (behind .slots)
@@ -31,8 +32,8 @@ Promised w h (bits first second third) before number count behind =
 
 -- calls made one after another: each takes what the last one left, and keeps its promise
 pub data Made (w h : ℕ) : List Call → (before behind : Lent) → Type 0 where
-  none : (l : Lent) → Made w h [] l l
-  one : (call : Call) (calls : List Call) (before next behind : Lent) (number count : ℕ) → Promised w h call before number count next
+  noCall : (l : Lent) → Made w h [] l l
+  thenCall : (call : Call) (calls : List Call) (before next behind : Lent) (number count : ℕ) → Promised w h call before number count next
       → Made w h calls next behind → Made w h (call ∷ calls) before behind
 
 -- what is lent in the end is what the balance's calls leave of what was lent: so they balance

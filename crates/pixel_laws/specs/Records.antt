@@ -37,13 +37,13 @@ surfaceBehind w h (rh p) st = st .surface
 surfaceBehind w h step st = st .surface
 surfaceBehind w h (ofBalance c) st = after w h c st .surface
 
-abbrev pub behind : (w h : ℕ) → RecordCall → State → State
-behind w h call st = record { beam = answered w h call st .after; surface = surfaceBehind w h call st }
+abbrev pub leftBehind : (w h : ℕ) → RecordCall → State → State
+leftBehind w h call st = record { beam = answered w h call st .after; surface = surfaceBehind w h call st }
 
 -- calls one after another: the state in the end
 unfoldable pub went : (w h : ℕ) → List RecordCall → State → State
 went w h [] st = st
-went w h (call ∷ calls) st = went w h calls (behind w h call st)
+went w h (call ∷ calls) st = went w h calls (leftBehind w h call st)
 
 -- a call's refusals but for 11 and "8 for the record"
 unfoldable pub byValues : (w h : ℕ) → RecordCall → Beam → ℕ
