@@ -1,4 +1,4 @@
--- "The same list cut into other writes": RP cut behind whole characters, ends of rows among them, names what it names in one write.
+-- "the same list cut into other writes": RP cut behind whole characters, ends of rows among them, names what it names in one write.
 use Prim.Native.Nat.{ℕ, _+_, _-_, _*_, _/_, min}
 use mathlib.Core.Path.{_≡_, refl, sym, _∙_, ap}
 use mathlib.Core.Bool.{Bool, true, false}

@@ -1,5 +1,5 @@
 -- "The record holds bits (0 when fresh, else 1, 2, 3 or 6), a viewport inside the surface and a beam inside the viewport."
--- "(0,0) is the lower left."
+-- "(0,0) is the lower left"
 use Prim.Native.Nat.{ℕ}
 use mathlib.Core.Bool.{Bool, _&&_, _||_}
 use lib.Dec.{leb, ltb, eqb}

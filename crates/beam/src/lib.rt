@@ -236,7 +236,7 @@ pub fn set_beam(w: usize, h: usize, beam: Beam, to: Point) -> Setting
 
 // ---- one step of the beam
 
-// "The beam goes right, then to the left edge of the row below, and from the last place to the upper left."
+// "the beam goes right, then to the left edge of the row below, and from the last place to the upper left"
 pub fn step(beam: Beam) -> Beam
     ensures { λ r. ⌜ r ≡ stepped beam ⌝ }
 {

@@ -1,4 +1,4 @@
--- "Changes no other field": whatever the step by value answers, its record differs from the one that came in the beam's place alone.
+-- "changes no other field": whatever the step by value answers, its record differs from the one that came in the beam's place alone.
 use Prim.Native.Nat.{ℕ}
 use mathlib.Core.Path.{_≡_, refl, sym, ap}
 use lib.Dec.{ltb, eqb}

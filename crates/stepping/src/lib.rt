@@ -33,7 +33,7 @@ fn step_by_value(beam: Beam, w: usize, h: usize) -> Moved
     }
 }
 
-// "Moves the beam one place in that record, changes no other field, and is refused with 11 for W or H outside 1..512, then with 8 on a record that is
+// "moves the beam one place in that record, changes no other field, and is refused with 11 for W or H outside 1..512, then with 8 on a record that is
 // not valid": 0 or the refusal's number.
 pub fn step(beam: &mut Beam, w: usize, h: usize) -> u8
     ensures { λ r. ⌜ (r ≡ makeStep w h (now (beam .entry)) .number) × (now (beam .exit) ≡ makeStep w h (now (beam .entry)) .after) ⌝ }
