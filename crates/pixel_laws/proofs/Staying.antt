@@ -4,12 +4,12 @@ use mathlib.Core.Path.{_≡_, refl, sym, _∙_}
 use mathlib.Core.Bool.{Bool, true, false, not, _&&_, _||_}
 use mathlib.Core.List.{List, [], _∷_}
 use native.Mathlib.Omega.{arith}
-use lib.Dec.{eqb, leb, ltb}
+use lib.Dec.{eqb, ltb}
 use lib.ListN.{length}
 use lib.IntN.{ℤ, pos, negsuc, natAbs}
 use borrow.Author.Tests.{lt-ltb, le-leb, ltb-true, eqb-true, eq-eqb}
 use Rattle.refusals.specs.Answers.{pick, demand}
-use Rattle.refusals.proofs.Cases.{by-pick, and-left, and-right, bool-apart}
+use Rattle.refusals.proofs.Cases.{and-left, and-right, bool-apart}
 use Rattle.refusals.proofs.Numbers.{met}
 use Rattle.memory.specs.declared.Point.{Point}
 use Rattle.beam.specs.declared.Beam.{Beam}
@@ -22,7 +22,7 @@ use Rattle.pixels.specs.Marks.{Mark, moved}
 use Rattle.pixels.specs.Writes.{written, drawRaster, drawRuns}
 use Rattle.pixels.specs.Standing.{BeamInside}
 use Rattle.pixels.proofs.Laying.{step-inside, step-bits, moved-inside, moved-bits, inside-of}
-use Rattle.balance.specs.Balance.{Call, raster, runs, bits, State, refusal, after, ran}
+use Rattle.balance.specs.Balance.{raster, runs, bits, State, refusal, after, ran}
 use Rattle.balance.proofs.Theorem.{balanced}
 use Rattle.pixel_laws.specs.Records.{RecordCall, fresh, rs, rh, step, ofBalance, answered, surfaceBehind, leftBehind, went, byValues, StaysValid}
 

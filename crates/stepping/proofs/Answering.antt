@@ -7,7 +7,6 @@ use Rattle.beam.specs.declared.Beam.{Beam}
 use Rattle.beam.specs.declared.Setting.{Setting}
 use Rattle.beam.specs.declared.Setting.the-variants.{Set, Refused}
 use Rattle.beam.specs.Settings.{settingOf, makeStep}
-use Rattle.stepping.specs.declared.Moved.{Moved}
 use Rattle.stepping.specs.Stepping.{movedOf}
 
 module _ (w h : ℕ) (beam : Beam) {s : Setting} (es : settingOf s ≡ makeStep w h beam) where
