@@ -27,12 +27,12 @@ use Rattle.laws.proofs.Shortest.{read-writable, command-shortest}
 -- ---- what writing gives
 
 -- a command that was written is writable, and its bytes are as many as the answer says
-record Wrote (kept : Remembered) (c : Command) (es : List ℤ) (room n : ℕ) : Type 0 where
-  writable : isCommand kept c es ≡ true
-  long : n ≡ length (spellCommand kept c es)
-  fits : length (spellCommand kept c es) ≤ room
+pub record Wrote (kept : Remembered) (c : Command) (es : List ℤ) (room n : ℕ) : Type 0 where
+  pub writable : isCommand kept c es ≡ true
+  pub long : n ≡ length (spellCommand kept c es)
+  pub fits : length (spellCommand kept c es) ≤ room
 
-wrote : (kept : Remembered) (c : Command) (es : List ℤ) (room : ℕ) {n : ℕ} → writeCommand kept c es room ≡ done n → Wrote kept c es room n
+pub wrote : (kept : Remembered) (c : Command) (es : List ℤ) (room : ℕ) {n : ℕ} → writeCommand kept c es room ≡ done n → Wrote kept c es room n
 unfolding writeIf writeAt roomFor
 wrote kept c es room = done-of (Wrote kept c es room) whole
   where
