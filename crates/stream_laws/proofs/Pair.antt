@@ -30,7 +30,7 @@ use Rattle.stream_calls.specs.Slots.{keptIn, twoOf, itemKept, itemNumber, itemF
 use Rattle.stream_calls.specs.Given.{ofKind, ofFound, commandGiven, keptAfter, WrittenCommand}
 use Rattle.laws.specs.Laws.{carried, Back, given}
 use Rattle.laws.proofs.Items.{Wrote, wrote, item-back}
-use Rattle.call_laws.specs.Pair.{taken, ReadBack}
+use Rattle.stream_laws.specs.Pair.{taken, ReadBack}
 
 -- ---- the values
 
