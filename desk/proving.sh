@@ -68,7 +68,7 @@ is_proved() { # FILE CRATES..
 # Written where a file was just built of what was proved.
 record() { # FILE SOURCES
     local record=$kept/${1##*/}
-    described "$1" "$2" >"$record.new" && mv "$record.new" "$record"
+    described "$1" "$2" >"$record.new" 2>/dev/null && mv "$record.new" "$record"
 }
 
 # Runs a function while no other command of the desk proves: two would write into one target/.
