@@ -39,7 +39,7 @@ sources_of() {
     mapfile -t crates < <(cut -d : -f 1 <<<"$lines")
     {
         printf '%s\n' "$lines"
-        (cd "$root/crates" && find "${crates[@]}" -name must-fail -prune -o -type f -exec sha256sum {} + | sort)
+        (cd "$root/crates" && find "${crates[@]}" -name must-fail -prune -o -type f -exec sha256sum {} + | LC_ALL=C sort)
     } | hash_of
 }
 
