@@ -1,17 +1,15 @@
-# Shared by the desk's commands that link the archive, which set `root` and `command` (their own name) before they read this file.
-# The archive is built, and proved, where it is missing or older than its sources.
+# Shared by ./archive and the desk's commands that link the archive; they set `root` and `command` (their own name) before they read this file.
 
+source "$root/desk/proving.sh"
+
+calls=(stream_calls report_calls pixel_calls macro_calls)
 archive="$root/target/staticlib/libardhrumesh.a"
 
-source "$root/desk/common.sh"
-
-# The archive, and then what links it.
+# The archive, where it is not what was proved, and then what links it.
 build_beside() {
-    command -v cargo >/dev/null || refuse "cargo is not found; install Rust and put cargo on the PATH"
-    if ! is_current "$archive"; then
-        needs_rt archive
-        "$root/archive" || refuse "the archive was not built; what ./archive said is above"
-    fi
-    cargo build --release --offline --quiet --manifest-path "$root/beside/Cargo.toml" ||
-        refuse "what links the archive was not built; what cargo said is above"
+    has cargo || fail "cargo is not found; install Rust and put cargo on the PATH"
+    is_proved "$archive" "${calls[@]}" || "$root/archive" || fail "the archive was not built; ./archive said why"
+    # Cargo goes by times: by its hash an archive is known that is not newer and yet another.
+    ARDHRUMESH_ARCHIVE=$(hash_of <"$archive") cargo build --release --offline --quiet --manifest-path "$root/beside/Cargo.toml" ||
+        fail "what links the archive was not built; cargo said why"
 }

@@ -1,20 +1,33 @@
 # Shared by the desk's commands, which set `root` and `command` (their own name) before they read this file.
+# A command ends with 0 where it is done, with 1 where it could not be done, and with 2 where it was asked for something wrong.
 
-# Says what is wrong and what to do, and ends the command.
-refuse() {
+say() {
     printf '%s: %s\n' "$command" "$1" >&2
+}
+
+# Says what could not be done and what to do, and ends the command.
+fail() {
+    say "$1"
+    exit 1
+}
+
+# Says what is wrong with what was asked for and what to do, and ends the command.
+refuse() {
+    say "$1"
     exit 2
 }
 
-# Whether a file is there and no source is newer.
-is_current() {
-    [[ -e $1 ]] || return 1
-    local newer
-    newer=$(find "$root/crates.txt" "$root"/crates/*/src -type f -newer "$1" -print -quit)
-    [[ -z $newer ]]
+# Refuses an argument that the command does not know.
+refuse_argument() {
+    say "${1@Q} is not known"
+    usage >&2
+    exit 2
+}
+
+has() {
+    command -v "$1" >/dev/null
 }
 
 needs_rt() {
-    command -v rt >/dev/null || refuse "the toolchain's command rt is not found; install Rattle and put rt on the PATH"
-    printf '%s: the %s is being built and proved; the first time this takes a few minutes\n' "$command" "$1" >&2
+    has rt || fail "the toolchain's command rt is not found; install Rattle and put rt on the PATH"
 }

@@ -1,11 +1,16 @@
 # The toolchain writes programs and archives for x86-64. On another machine its emulator runs the programs, and its own compiler makes the archive
-# for that machine, of the same module. The desk's commands know of it by this file alone.
+# for that machine, of the same module. The desk's commands know of it by this file alone, and read common.sh before it.
 
 machine=$(uname -m)
 
 # The toolchain's folder: rt stands in its bin/.
 kit() {
     dirname "$(dirname "$(readlink -f "$(command -v rt)")")"
+}
+
+needs_emulator() {
+    [[ $machine == x86_64 ]] || has rt ||
+        fail "on this machine, $machine, the toolchain's emulator runs the program, and rt is not found; install Rattle and put rt on the PATH"
 }
 
 # Runs a program that rt has built.

@@ -1,23 +1,30 @@
-# Shared by the desk's commands, which set `root`, `command` (their own name) and `crate` before they read this file.
-# The program is built, and proved, where it is missing or older than its sources.
+# Shared by the desk's commands that run a proved program; they set `root`, `command` (their own name) and `crate` before they read this file.
+
+source "$root/desk/proving.sh"
 
 program="$root/target/bin/$crate"
 
-source "$root/desk/common.sh"
-source "$root/desk/machine.sh"
-
-is_built() {
-    is_current "$program"
+# Proves and builds the program, where it is not what was proved.
+is_ready=''
+ready_program() {
+    [[ -z $is_ready ]] || return 0
+    if ! is_proved "$program" "$crate"; then
+        needs_rt
+        alone build_program || exit
+    fi
+    needs_emulator
+    is_ready=yes
 }
 
-build() {
-    needs_rt program
-    local said
-    if ! said=$(cd "$root" && rt check "$crate" 2>&1) || [[ ! -x $program ]]; then
-        printf '%s\n' "$said" >&2
-        printf '%s: the program was not built; what rt said is above\n' "$command" >&2
-        exit 1
-    fi
-    # An unchanged program is not written anew: it is now as good as its sources.
-    touch "$program"
+# rt builds a program only where it has no stamp.
+build_program() {
+    local sources all
+    is_proved "$program" "$crate" && return
+    sources=$(sources_of "$crate")
+    all=$(closure "$crate" | wc -l)
+    say "the $crate is built first, of $all crates to be proved; where none is proved yet this takes a few minutes"
+    rm -rf "$program" "$root/target/stamp/$crate"
+    prove "$all" "$crate"
+    [[ -x $program ]] || fail "rt has built no $crate; what it said is in ${kept@Q}"
+    record "$program" "$sources" || fail "nothing can be written in ${kept@Q}; make room, or give yourself the right to"
 }

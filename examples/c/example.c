@@ -1,12 +1,15 @@
 /*
- * A program to start from: it goes through a capture item by item, keeps the remembered point, carries out the pixel commands on a small
- * surface, keeps macros, and writes one command and one report.
+ * A program to start from: it goes through a capture item by item, keeps the remembered point, carries out the pixel commands on a surface of
+ * 480 by 360, keeps macros, counts what it met, and writes one command and one report.
  *
  *     gcc -std=c99 -Wall -Wextra -Iinclude examples/c/example.c target/staticlib/libardhrumesh.a -o target/example
- *     target/example                       goes through the few bytes below
- *     target/example examples/first.tek    goes through a file
+ *     target/example                                    goes through the few bytes below
+ *     target/example examples/first.tek                 goes through a file of any length; - is standard input
+ *     target/example examples/first.tek surface.pgm     and writes the surface as a picture for an image viewer
  *
  * It stops at an answer that it relies on and does not get. A refused item of a capture is none of these: it is shown, and the next one follows.
+ * It exits with 0 where it is done, with 1 where something could not be read, written or kept in memory, and with 2 where it was asked for
+ * something wrong.
  */
 #include <stdio.h>
 #include <stdlib.h>
@@ -15,12 +18,15 @@
 #include "ardhrumesh.h"
 
 enum {
-    WIDTH = 16,
-    HEIGHT = 8,
-    LONGEST_CAPTURE = 65536,
-    LONGEST_LIST = 256, /* no string or array is longer, so reading is never refused for want of room */
-    STORE = 600,
-    LONGEST_EXPANSION = 2000
+    WIDTH = 480,
+    HEIGHT = 360,
+    COLOURS = 64,               /* six bits a pixel are the most */
+    REFUSALS = 18,              /* their numbers, and 0 */
+    LONGEST_LIST = 256,         /* no string or array is longer, so reading is never refused for want of room */
+    LONGEST_EXPANSION = 262144, /* 1,024 macros of 256 bytes: no expansion is longer */
+    STORE = 65536,              /* as long as one likes */
+    FIRST_ROOM = 65536,
+    SMALL = 16                  /* a viewport that is no wider and no higher is shown */
 };
 
 /* What the bench keeps from item to item. */
@@ -30,6 +36,11 @@ struct bench {
     uint8_t surface[WIDTH * HEIGHT];
     uint8_t volatile_store[STORE];
     uint8_t saved_store[STORE];
+    uint8_t expansion[LONGEST_EXPANSION];
+    size_t texts;
+    size_t commands;
+    size_t refused_commands;
+    size_t refusals[REFUSALS]; /* how often each number was given */
 };
 
 /* One item as ardh_next_item answers it. */
@@ -37,6 +48,12 @@ struct item {
     size_t parts[7];
     int32_t values[4];
     int32_t list[LONGEST_LIST];
+};
+
+struct capture {
+    uint8_t *bytes;
+    size_t length;
+    size_t room;
 };
 
 static const uint8_t built_in[] = {
@@ -51,6 +68,8 @@ static const uint8_t built_in[] = {
     27, 75, 68, 53, 54, 65, 59, 69, 50, 68, 60, 67, 49, 68, 49, 67, 63, /* KD 5: the body RL, three pixels of colour 7 */
     27, 75, 88, 53,                               /* KX 5: expanded, and carried out */
     27, 82, 80, 51, 51, 42, 96, 60,               /* RP 3: colours 1 2, an end of row, and 3 in the row below */
+    27, 82, 85, 49, 59, 54,                       /* RU 1 11 6: six bits a pixel */
+    27, 82, 76, 50, 73, 48, 71, 63,               /* RL: two pixels of colour 16, one of colour 63 */
     27, 82, 80, 52, 49, 42,                       /* RP 4 with one character: refused */
     27, 75, 88, 54,                               /* KX 6: no such macro */
     27, 75, 90, 48,                               /* KZ: no such command */
@@ -59,7 +78,7 @@ static const uint8_t built_in[] = {
 
 static const char *in_words(unsigned number)
 {
-    static const char *const words[] = {
+    static const char *const words[REFUSALS] = {
         "done",
         "bytes end inside a command",
         "unknown command",
@@ -79,16 +98,28 @@ static const char *in_words(unsigned number)
         "a 1,025th macro would be entered",
         "macro body holds a refused or cut command"
     };
-    return number < sizeof words / sizeof words[0] ? words[number] : "a number that the unit never gives";
+    return number < REFUSALS ? words[number] : "a number that the unit never gives";
+}
+
+/* Ends the program: 1 where something could not be done, 2 where it was asked for something wrong. */
+static void stop(int status, const char *what, const char *why)
+{
+    fprintf(stderr, "example: %s: %s\n", what, why);
+    exit(status);
 }
 
 /* For answers that the program cannot go on without. */
 static void must_be_done(uint8_t number, const char *what)
 {
-    if (number == ARDH_DONE)
-        return;
-    fprintf(stderr, "example: %s: refusal %u, %s\n", what, (unsigned)number, in_words(number));
-    exit(1);
+    if (number != ARDH_DONE)
+        stop(1, what, in_words(number));
+}
+
+/* Keeps count of an answer. */
+static void count(struct bench *bench, uint8_t number)
+{
+    if (number < REFUSALS)
+        bench->refusals[number]++;
 }
 
 static void show_bytes(const uint8_t *bytes, size_t length)
@@ -105,25 +136,13 @@ static void show_list(const int32_t *list, size_t entries)
     printf("\n");
 }
 
-static void show_outcome(uint8_t number)
+static void show_outcome(struct bench *bench, uint8_t number)
 {
+    count(bench, number);
     if (number == ARDH_DONE)
         printf("        done\n");
     else
         printf("        refusal %u: %s\n", (unsigned)number, in_words(number));
-}
-
-static void show_surface(const struct bench *bench)
-{
-    printf("\nThe surface, the top row first (a point where nothing was drawn):\n");
-    for (size_t row = 0; row < HEIGHT; row++) {
-        for (size_t column = 0; column < WIDTH; column++) {
-            uint8_t colour = bench->surface[row * WIDTH + column];
-            putchar(colour ? '0' + colour % 10 : '.');
-        }
-        printf("\n");
-    }
-    printf("the beam is at (%lu,%lu)\n\n", (unsigned long)bench->record[5], (unsigned long)bench->record[6]);
 }
 
 static void go_through(struct bench *bench, const uint8_t *bytes, size_t length);
@@ -138,24 +157,23 @@ static void draw(struct bench *bench, const struct item *item, char second)
                                   &pixels);
     else
         number = ardh_draw_runs(bench->surface, sizeof bench->surface, WIDTH, HEIGHT, bench->record, item->list, entries, &pixels);
-    show_outcome(number);
+    show_outcome(bench, number);
     if (number == ARDH_DONE)
-        printf("        pixels: %lu\n", (unsigned long)pixels);
+        printf("        pixels: %zu\n", pixels);
 }
 
 /* KX. An expansion has no KX left in it, so going through it never comes back here. */
 static void expand(struct bench *bench, int32_t macro)
 {
-    uint8_t out[LONGEST_EXPANSION];
     size_t counts[2];
-    uint8_t number = ardh_expand(bench->volatile_store, STORE, bench->saved_store, STORE, macro, out, sizeof out, counts);
-    show_outcome(number);
+    uint8_t number = ardh_expand(bench->volatile_store, STORE, bench->saved_store, STORE, macro, bench->expansion, LONGEST_EXPANSION, counts);
+    show_outcome(bench, number);
     if (number != ARDH_DONE)
         return;
-    printf("        macros entered: %lu; the expansion:", (unsigned long)counts[1]);
-    show_bytes(out, counts[0]);
+    printf("        macros entered: %zu; the expansion:", counts[1]);
+    show_bytes(bench->expansion, counts[0]);
     printf("    its items:\n");
-    go_through(bench, out, counts[0]);
+    go_through(bench, bench->expansion, counts[0]);
     printf("    end of the expansion\n");
 }
 
@@ -166,17 +184,17 @@ static void obey(struct bench *bench, const struct item *item)
     size_t entries = item->parts[6];
     char letters[3] = {(char)item->parts[3], (char)item->parts[4], 0};
     if (strcmp(letters, "RU") == 0)
-        show_outcome(ardh_set_bits(WIDTH, HEIGHT, bench->record, v[0], v[1], v[2]));
+        show_outcome(bench, ardh_set_bits(WIDTH, HEIGHT, bench->record, v[0], v[1], v[2]));
     else if (strcmp(letters, "RS") == 0)
-        show_outcome(ardh_set_viewport(WIDTH, HEIGHT, bench->record, v[0], v[1], v[2], v[3]));
+        show_outcome(bench, ardh_set_viewport(WIDTH, HEIGHT, bench->record, v[0], v[1], v[2], v[3]));
     else if (strcmp(letters, "RH") == 0)
-        show_outcome(ardh_set_beam(WIDTH, HEIGHT, bench->record, v[0], v[1]));
+        show_outcome(bench, ardh_set_beam(WIDTH, HEIGHT, bench->record, v[0], v[1]));
     else if (strcmp(letters, "RP") == 0 || strcmp(letters, "RL") == 0)
         draw(bench, item, letters[1]);
     else if (strcmp(letters, "KD") == 0)
-        show_outcome(ardh_define(bench->volatile_store, STORE, v[0], item->list, entries));
+        show_outcome(bench, ardh_define(bench->volatile_store, STORE, v[0], item->list, entries));
     else if (strcmp(letters, "KO") == 0)
-        show_outcome(ardh_define(bench->saved_store, STORE, v[0], item->list, entries));
+        show_outcome(bench, ardh_define(bench->saved_store, STORE, v[0], item->list, entries));
     else if (strcmp(letters, "KX") == 0)
         expand(bench, v[0]);
 }
@@ -190,7 +208,7 @@ static size_t numbers_of(size_t kind)
 
 static void show_command(const struct item *item, size_t start)
 {
-    printf("%5lu  command %c%c:", (unsigned long)start, (int)item->parts[3], (int)item->parts[4]);
+    printf("%5zu  command %c%c:", start, (int)item->parts[3], (int)item->parts[4]);
     show_list(item->values, numbers_of(item->parts[5]));
     if (item->parts[6] > 0) {
         printf("        list:");
@@ -198,27 +216,77 @@ static void show_command(const struct item *item, size_t start)
     }
 }
 
+/* One item that starts at `start`, whatever it is. */
+static void take(struct bench *bench, const struct item *item, size_t start, uint8_t number)
+{
+    switch (item->parts[0]) {
+    case ARDH_ITEM_TEXT:
+        bench->texts++;
+        printf("%5zu  text %zu\n", start, item->parts[3]);
+        break;
+    case ARDH_ITEM_COMMAND:
+        bench->commands++;
+        show_command(item, start);
+        obey(bench, item);
+        break;
+    case ARDH_ITEM_REFUSED_COMMAND:
+        bench->refused_commands++;
+        count(bench, number);
+        printf("%5zu  refusal %u at %zu: %s\n", start, (unsigned)number, item->parts[2], in_words(number));
+        break;
+    default:
+        stop(1, "reading an item", in_words(number));
+    }
+}
+
+/* An item is read where it stands, with all bytes behind it at hand: so a capture is in memory whole before it is gone through. */
 static void go_through(struct bench *bench, const uint8_t *bytes, size_t length)
 {
     struct item item;
     size_t start = 0;
     while (start < length) {
         uint8_t number = ardh_next_item(bytes, length, start, bench->point, item.list, LONGEST_LIST, item.parts, item.values);
-        switch (item.parts[0]) {
-        case ARDH_ITEM_TEXT:
-            printf("%5lu  text %lu\n", (unsigned long)start, (unsigned long)item.parts[3]);
-            break;
-        case ARDH_ITEM_COMMAND:
-            show_command(&item, start);
-            obey(bench, &item);
-            break;
-        case ARDH_ITEM_REFUSED_COMMAND:
-            printf("%5lu  refusal %u at %lu: %s\n", (unsigned long)start, (unsigned)number, (unsigned long)item.parts[2], in_words(number));
-            break;
-        default:
-            must_be_done(number, "reading an item");
-        }
+        take(bench, &item, start, number);
         start = item.parts[1];
+    }
+}
+
+static void show_counts(const struct bench *bench)
+{
+    printf("\nItems: %zu of text, %zu commands, %zu refused commands\n", bench->texts, bench->commands, bench->refused_commands);
+    for (unsigned number = 1; number < REFUSALS; number++)
+        if (bench->refusals[number] > 0)
+            printf("%8zu of refusal %u: %s\n", bench->refusals[number], number, in_words(number));
+}
+
+static void show_colours(const struct bench *bench)
+{
+    size_t places[COLOURS] = {0};
+    for (size_t i = 0; i < sizeof bench->surface; i++)
+        if (bench->surface[i] < COLOURS)
+            places[bench->surface[i]]++;
+    printf("\nThe places of the surface, %d by %d:\n", (int)WIDTH, (int)HEIGHT);
+    for (unsigned colour = 0; colour < COLOURS; colour++)
+        if (places[colour] > 0)
+            printf("%8zu of colour %u\n", places[colour], colour);
+}
+
+/* The surface has its top row first, and y counts from the bottom. */
+static uint8_t colour_at(const struct bench *bench, size_t x, size_t y)
+{
+    return bench->surface[(HEIGHT - 1 - y) * WIDTH + x];
+}
+
+static void show_viewport(const struct bench *bench)
+{
+    size_t left = bench->record[1], bottom = bench->record[2], right = bench->record[3], top = bench->record[4];
+    printf("the viewport is from (%zu,%zu) to (%zu,%zu), the beam at (%zu,%zu)\n", left, bottom, right, top, bench->record[5], bench->record[6]);
+    if (right - left >= SMALL || top - bottom >= SMALL)
+        return;
+    for (size_t y = top + 1; y > bottom; y--) {
+        for (size_t x = left; x <= right; x++)
+            printf("%4u", (unsigned)colour_at(bench, x, y - 1));
+        printf("\n");
     }
 }
 
@@ -231,7 +299,7 @@ static void write_some(void)
     uint8_t out[8];
     size_t end;
     must_be_done(ardh_write_command('L', 'F', to, no_entries, 0, point, out, sizeof out, &end), "writing LF");
-    printf("LF (0,100) is written");
+    printf("\nLF (0,100) is written");
     show_bytes(out, end);
     must_be_done(ardh_write_integer_report(600, out, sizeof out, 0, &end), "writing a report");
     printf("the report 600 is written");
@@ -239,39 +307,77 @@ static void write_some(void)
     printf("a report of 70000: refusal %u\n", (unsigned)ardh_write_integer_report(70000, out, sizeof out, 0, &end));
 }
 
-/* The file's bytes, or the program ends: half a capture is worse than none. */
-static size_t read_capture(const char *name, uint8_t *bytes)
+/* A PGM: its bytes are the colours as they are, and the highest is white. */
+static void write_picture(const struct bench *bench, const char *name)
 {
-    FILE *file = fopen(name, "rb");
-    if (!file) {
-        fprintf(stderr, "example: %s cannot be read; give the path of a capture, such as examples/first.tek\n", name);
-        exit(2);
+    unsigned highest = 1;
+    for (size_t i = 0; i < sizeof bench->surface; i++)
+        if (bench->surface[i] > highest)
+            highest = bench->surface[i];
+    FILE *file = fopen(name, "wb");
+    if (!file)
+        stop(1, name, "cannot be written; name another file");
+    int is_written = fprintf(file, "P5\n%d %d\n%u\n", (int)WIDTH, (int)HEIGHT, highest) > 0;
+    is_written = fwrite(bench->surface, 1, sizeof bench->surface, file) == sizeof bench->surface && is_written;
+    is_written = fclose(file) == 0 && is_written;
+    if (!is_written)
+        stop(1, name, "could not be written whole, and is no picture; make room, or name another file");
+}
+
+/* More than twice the room, or the program ends. */
+static void enlarge(struct capture *capture)
+{
+    size_t room = 2 * capture->room + FIRST_ROOM;
+    uint8_t *bytes = room > capture->room ? (uint8_t *)realloc(capture->bytes, room) : NULL;
+    if (!bytes)
+        stop(1, "the capture", "there is not enough memory for it");
+    capture->bytes = bytes;
+    capture->room = room;
+}
+
+/* All bytes of a file, in memory that the caller frees; or the program ends: half a capture is worse than none. */
+static struct capture read_capture(const char *name)
+{
+    struct capture capture = {NULL, 0, 0};
+    FILE *file = strcmp(name, "-") == 0 ? stdin : fopen(name, "rb");
+    if (!file)
+        stop(2, name, "cannot be read; give the path of a capture, such as examples/first.tek");
+    while (!feof(file) && !ferror(file)) {
+        if (capture.length == capture.room)
+            enlarge(&capture);
+        capture.length += fread(capture.bytes + capture.length, 1, capture.room - capture.length, file);
     }
-    size_t length = fread(bytes, 1, LONGEST_CAPTURE, file);
-    int is_whole = !ferror(file) && fgetc(file) == EOF;
-    fclose(file);
-    if (!is_whole) {
-        fprintf(stderr, "example: %s is a folder, or longer than %d bytes\n", name, (int)LONGEST_CAPTURE);
-        exit(2);
-    }
-    return length;
+    if (ferror(file))
+        stop(1, name, "could not be read to its end, or is a folder");
+    if (file != stdin)
+        fclose(file);
+    return capture;
+}
+
+static void go_through_file(struct bench *bench, const char *name)
+{
+    struct capture capture = read_capture(name);
+    go_through(bench, capture.bytes, capture.length);
+    free(capture.bytes);
 }
 
 int main(int arguments, char **argument)
 {
-    static uint8_t capture[LONGEST_CAPTURE];
     static struct bench bench; /* all noughts: a fresh point, an empty surface, empty stores */
-    size_t length = sizeof built_in;
-    if (arguments > 2) {
-        fprintf(stderr, "usage: example [FILE]\n");
-        return 2;
-    }
-    memcpy(capture, built_in, sizeof built_in);
-    if (arguments == 2)
-        length = read_capture(argument[1], capture);
+    if (arguments > 3)
+        stop(2, "usage", "example [FILE [SURFACE.pgm]]");
     must_be_done(ardh_fresh(WIDTH, HEIGHT, bench.record), "making a fresh record");
-    go_through(&bench, capture, length);
-    show_surface(&bench);
+    if (arguments > 1)
+        go_through_file(&bench, argument[1]);
+    else
+        go_through(&bench, built_in, sizeof built_in);
+    show_counts(&bench);
+    show_colours(&bench);
+    show_viewport(&bench);
     write_some();
+    if (arguments > 2)
+        write_picture(&bench, argument[2]);
+    if (fflush(stdout) != 0 || ferror(stdout))
+        stop(1, "standard output", "could not be written");
     return 0;
 }

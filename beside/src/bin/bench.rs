@@ -5,6 +5,8 @@ use beside::bench::job::Measured;
 use beside::bench::page::{page, table, Row};
 use beside::bench::timing::measure;
 use beside::bench::{defining, depths, expanding, looking_up, painting, reading, writing};
+use std::fs::{remove_file, rename, write};
+use std::io::Write;
 use std::process::ExitCode;
 
 fn main() -> ExitCode {
@@ -28,24 +30,36 @@ fn run(arguments: &[String]) -> Result<(), String> {
     }
     eprintln!("bench: the stack of each call");
     let depths = depths::all()?;
-    print!("{}", table(&rows));
-    let highest = rows
-        .iter()
-        .max_by(|a, b| a.full.ratio().total_cmp(&b.full.ratio()));
-    if let Some(row) = highest {
-        println!(
-            "\nhighest ratio: {:.2}, {}, {}",
-            row.full.ratio(),
-            row.name,
-            row.size
-        );
-    }
+    let text = table(&rows) + &highest(&rows);
+    std::io::stdout()
+        .write_all(text.as_bytes())
+        .map_err(|e| format!("standard output cannot be written: {e}"))?;
     if let [path, undefined] = arguments {
-        let page = page(&rows, &depths, undefined);
-        std::fs::write(path, page).map_err(|e| format!("{path} cannot be written: {e}"))?;
+        replace(path, &page(&rows, &depths, undefined))
+            .map_err(|e| format!("{path} cannot be written: {e}"))?;
         eprintln!("bench: the page is in {path}");
     }
     Ok(())
+}
+
+fn highest(rows: &[Row]) -> String {
+    let highest = rows
+        .iter()
+        .max_by(|a, b| a.full.ratio().total_cmp(&b.full.ratio()));
+    highest.map_or(String::new(), |row| {
+        let ratio = row.full.ratio();
+        format!("\nhighest ratio: {ratio:.2}, {}, {}\n", row.name, row.size)
+    })
+}
+
+/// The page that stands is replaced by a whole one, or left.
+fn replace(path: &str, page: &str) -> std::io::Result<()> {
+    let beside = format!("{path}.new");
+    let replaced = write(&beside, page).and_then(|()| rename(&beside, path));
+    if replaced.is_err() {
+        let _ = remove_file(&beside);
+    }
+    replaced
 }
 
 fn all_jobs() -> Vec<Measured> {

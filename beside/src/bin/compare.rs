@@ -1,5 +1,6 @@
 //! `./compare`: the archive and the second program on the same inputs.
 
+use std::io::Write;
 use std::process::ExitCode;
 use std::time::{SystemTime, UNIX_EPOCH};
 
@@ -10,11 +11,11 @@ fn main() -> ExitCode {
     let arguments: Vec<String> = std::env::args().skip(1).collect();
     let report = match parse(&arguments) {
         Err(message) => {
-            eprintln!("compare: {message}\n{USAGE}");
+            eprint!("compare: {message}\n{USAGE}");
             return ExitCode::from(2);
         }
         Ok(Options::Help) => {
-            println!("{USAGE}");
+            print!("{USAGE}");
             return ExitCode::SUCCESS;
         }
         Ok(Options::Fixed) => fixed_part(),
@@ -26,7 +27,10 @@ fn main() -> ExitCode {
         }
         Ok(Options::One { seed, kind, case }) => one_case(seed, kind, case),
     };
-    println!("{}", report.text);
+    if let Err(trouble) = writeln!(std::io::stdout(), "{}", report.text) {
+        eprintln!("compare: standard output cannot be written: {trouble}");
+        return ExitCode::FAILURE;
+    }
     ExitCode::from(if report.is_good { 0 } else { 1 })
 }
 

@@ -285,3 +285,18 @@ pub fn run_case(kind: usize, seed: u64, case: u64, row: &mut Row) -> Result<(), 
 pub fn kind_named(name: &str) -> Option<usize> {
     KINDS.iter().position(|kind| kind.name == name)
 }
+
+#[cfg(test)]
+mod tests {
+    use super::*;
+
+    #[test]
+    fn the_kinds_that_the_command_knows_are_these() {
+        let line = |kind: &Kind| match kind.making {
+            Drawn(_) => format!("{} drawn\n", kind.name),
+            Counted(_) => format!("{} {}\n", kind.name, kind.cases),
+        };
+        let lines: String = KINDS.iter().map(line).collect();
+        assert_eq!(lines, include_str!("kinds.txt"));
+    }
+}

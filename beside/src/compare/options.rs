@@ -1,17 +1,8 @@
-//! The command line.
+//! The command line. `./compare` looks at it before anything is built, by `usage.txt` and `kinds.txt`, and lets nothing through that is refused here.
 
 use super::kinds::{kind_named, KINDS};
 
-pub const USAGE: &str = "\
-usage: ./compare
-       ./compare --minutes N [--seed S]
-       ./compare --seed S --kind KIND --case C
-
-Gives the same inputs to the archive and to the second program and compares all that they answer and leave behind.
-With no argument: the fixed part, 12,800,000 cases that are drawn and 53,875,081 that are counted, always the same.
-With --minutes: new cases for N minutes. The seed is taken from the clock and printed; --seed repeats a run.
-With --kind and --case: one case alone, as a difference names it.
-docs/COMPARISON.md explains what is printed. To try it: ./compare --minutes 1";
+pub const USAGE: &str = include_str!("usage.txt");
 
 #[derive(Debug, PartialEq)]
 pub enum Options {
