@@ -158,7 +158,11 @@ uint8_t ardh_draw_runs(uint8_t *surface, size_t length, size_t w, size_t h, size
 
 /* ---- macros */
 
-/* KD and KO: sets, replaces or, with no contents, deletes a macro in a store. Returns 12, 8, 13; or 0. */
+/*
+ * KD and KO: sets, replaces or, with no contents, deletes a macro in a store.
+ * Returns 12 for a store that is not well formed, 8 for a number outside 0..32767, more than 256 contents or one outside 0..127, 13 if the result does
+ * not fit the store; or 0.
+ */
 uint8_t ardh_define(uint8_t *store, size_t length, int32_t number, const int32_t *contents, size_t entries);
 
 /* What stands in place[0] behind a look up. */
@@ -168,11 +172,18 @@ enum {
     ARDH_IN_SAVED = 2
 };
 
-/* Where a macro's body stands: place[0] says in which store, place[1] where its first byte is, place[2] its length. Returns 12, 8, 14; or 0. */
+/*
+ * Where a macro's body stands: place[0] says in which store, place[1] where its first byte is, place[2] its length.
+ * Returns 12 for a store that is not well formed, 8 for a number outside 0..32767, 14 for a macro that neither store has; or 0.
+ */
 uint8_t ardh_look_up(const uint8_t *volatile_store, size_t volatile_length, const uint8_t *saved_store, size_t saved_length, int32_t number,
                      size_t place[3]);
 
-/* The expansion of a macro into `out`: counts[0] bytes, and counts[1] macros entered. Returns 12, 8, 14, the first trouble's number, 7; or 0. */
+/*
+ * The expansion of a macro into `out`: counts[0] bytes, and counts[1] macros entered.
+ * Returns 12 for a store that is not well formed, 8 for a number outside 0..32767, 14 for a macro that neither store has, the number of the first trouble
+ * (15, 16 or 17), 7 if the whole expansion does not fit `out`; or 0.
+ */
 uint8_t ardh_expand(const uint8_t *volatile_store, size_t volatile_length, const uint8_t *saved_store, size_t saved_length, int32_t number,
                     uint8_t *out, size_t room, size_t counts[2]);
 

@@ -125,7 +125,8 @@ fn body(
     }
 }
 
-// The command whose ESC is at `start`: 1 to 6 with their places, then 7 at the start. Nothing lent is touched before all is known to be good.
+// The command whose ESC is at `start`: 1 to 6 with their places, or 8 at 0 where a point is to be read and the remembered one is outside 0..4095; then 7
+// at the start. Nothing lent is touched before all is known to be good.
 pub fn read_command(kept: Remembered, s: &[u8], start: usize, list: &mut [i32]) -> CommandRead
     ensures { λ r. ⌜ (commandOf r ≡ told (commandAt kept (now (s .entry)) start (length (now (list .entry))))) × (now (list .exit) ≡ afterEntries (commandAt kept (now (s .entry)) start (length (now (list .entry)))) (now (list .entry))) ⌝ }
 {

@@ -1,5 +1,6 @@
 pub mod RoundTrip
 pub mod Shortest
 pub mod Places
-pub mod Partition
 pub mod Room
+pub mod Partition
+pub mod Items

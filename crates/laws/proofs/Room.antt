@@ -1,10 +1,11 @@
--- "Refusal 7 comes only for a whole command": with room for 256 entries it never comes, and every item is read.
+-- What refuses a command has a number of 1 to 6. "Refusal 7 comes only for a whole command": with room for 256 entries it never comes.
 use Prim.Native.Nat.{ℕ, zero, suc, _+_, _*_, _%_, _≤_, _<_}
 use mathlib.Core.Path.{_≡_, refl, sym, _∙_, ap, subst}
-use mathlib.Core.Bool.{Bool, true, false}
+use mathlib.Core.Bool.{Bool, true, false, _&&_}
+use mathlib.Core.Logic.{_⊎_, inl, inr}
 use mathlib.Core.List.{List, [], _∷_}
 use native.Mathlib.Omega.{arith}
-use borrow.Author.Tests.{le-ltb, le-leb, leb-true, eqb-true}
+use borrow.Author.Tests.{leb-true, leb-false}
 use lib.Dec.{ltb, leb, eqb}
 use lib.ListN.{length, getD}
 use lib.IntN.{ℤ, natAbs}
@@ -12,7 +13,7 @@ use Rattle.memory.specs.declared.Point.{Point}
 use Rattle.memory.specs.declared.Remembered.{Remembered}
 use Rattle.memory.specs.Memory.{inside}
 use Rattle.refusals.specs.Answers.{Answer, done, refused, Read, then, pick, endsAfter}
-use Rattle.refusals.proofs.Cases.{by-pick, done-of, zero-one}
+use Rattle.refusals.proofs.Cases.{by-pick, done-of, and-left, and-right}
 use Rattle.wire.specs.Taking.{byteAt}
 use Rattle.wire.specs.Taking.{pairAt}
 use Rattle.signs.specs.Signs.{isNegative}
@@ -34,14 +35,13 @@ use Rattle.parameters.specs.declared.Tail.the-variants.{NoList, ListOf}
 use Rattle.parameters.specs.Shapes.{Part, single, real, point, Shape, shapeOf}
 use Rattle.parameters.specs.Looking.{twoEntriesAt, Fixed, partAt, fixedAt, tailAt, Parsed, parametersAt}
 use Rattle.commands.specs.Reading.{letterAt, Letters, completed, secondAt, headAt, Meaning, bodyAt, commandAt}
-use Rattle.stream.specs.Items.{Itemed, nothing, text, command, refusedCommand, refusedCall, asItem, commandItem, itemAt}
 use Rattle.laws.proofs.Shortest.{FixedShown, part-good}
 use Rattle.laws.proofs.Places.{after-inside}
 
 -- what is done has P, and what is refused has a number of 1 to 6
 unfoldable Early : {A : Type 0} (P : A → Type 0) → Answer A → Type 0
 Early P (done x) = P x
-Early P (refused e p) = e ≤ 6
+Early P (refused e p) = (1 ≤ e) × (e ≤ 6)
 
 early-then : {A B : Type 0} (P : A → Type 0) (Q : B → Type 0) (a : Answer A) (k : A → Answer B) → Early P a → ((x : A) → a ≡ done x → P x → Early Q (k x)) → Early Q (then a k)
 unfolding Early
@@ -56,9 +56,9 @@ early : {A : Type 0} (P : A → Type 0) (x : A) → P x → Early P (done x)
 unfolding Early
 early P x h = h
 
-low : {A : Type 0} (P : A → Type 0) (e p : ℕ) → e ≤ 6 → Early P (refused e p)
+low : {A : Type 0} (P : A → Type 0) (e p : ℕ) → leb 1 e && leb e 6 ≡ true → Early P (refused e p)
 unfolding Early
-low P e p h = h
+low P e p h = (leb-true 1 e (and-left (leb 1 e) (leb e 6) h), leb-true e 6 (and-right (leb 1 e) (leb e 6) h))
 
 module _ (kept : Remembered) (s : List ℕ) where
   byte-early : (at : ℕ) → Early Any (byteAt kept s at)
@@ -67,22 +67,22 @@ module _ (kept : Remembered) (s : List ℕ) where
       by-pick P (ltb at (length s)) _ _
       (λ t. by-pick P (eqb (getD s at 0) 27) _ _
       (λ u. by-pick P (ltb (at + 1) (length s)) _ _
-      (λ v. by-pick P (eqb (getD s (at + 1) 0) 63) _ _ (λ w. early Any _ tt) (λ w. low Any 6 _ (omega arith)))
-      (λ v. low Any 1 _ (omega arith)))
-      (λ u. by-pick P (ltb (getD s at 0) 32) _ _ (λ v. low Any 3 _ (omega arith)) (λ v. by-pick P (ltb 127 (getD s at 0)) _ _ (λ w. low Any 3 _ (omega arith)) (λ w. early Any _ tt))))
-      (λ t. low Any 1 _ (omega arith))
+      (λ v. by-pick P (eqb (getD s (at + 1) 0) 63) _ _ (λ w. early Any _ tt) (λ w. low Any 6 _ refl))
+      (λ v. low Any 1 _ refl))
+      (λ u. by-pick P (ltb (getD s at 0) 32) _ _ (λ v. low Any 3 _ refl) (λ v. by-pick P (ltb 127 (getD s at 0)) _ _ (λ w. low Any 3 _ refl) (λ w. early Any _ tt))))
+      (λ t. low Any 1 _ refl)
     where
       P : Answer (Read ℕ) → Type 0
       P = Early Any
 
   in-range : (m : ℕ) (t : Bool) (p n : ℕ) → Early Any (inRange m t p n)
-  in-range m t p n = by-pick (Early Any) (leb m (mostMagnitude t)) _ _ (λ u. early Any _ tt) (λ u. low Any 4 p (omega arith))
+  in-range m t p n = by-pick (Early Any) (leb m (mostMagnitude t)) _ _ (λ u. early Any _ tt) (λ u. low Any 4 p refl)
 
   integer-early : (k h at : ℕ) → Early Any (integerFrom kept k h s at)
   unfolding integerFrom
   integer-early zero h at =
       early-then Any Any (byteAt kept s at) _ (byte-early at)
-      (λ b e q. by-pick (Early Any) (ltb (b .value) 64) _ _ (λ l. in-range (h * 16 + b .value % 16) (ltb (b .value) 48) (b .place) (b .next)) (λ l. low Any 4 _ (omega arith)))
+      (λ b e q. by-pick (Early Any) (ltb (b .value) 64) _ _ (λ l. in-range (h * 16 + b .value % 16) (ltb (b .value) 48) (b .place) (b .next)) (λ l. low Any 4 _ refl))
   integer-early (suc k) h at =
       early-then Any Any (byteAt kept s at) _ (byte-early at)
       (λ b e q. by-pick (Early Any) (ltb (b .value) 64) _ _ (λ l. in-range (h * 16 + b .value % 16) (ltb (b .value) 48) (b .place) (b .next)) (λ l. integer-early k (h * 64 + b .value % 64) (b .next)))
@@ -95,8 +95,8 @@ module _ (kept : Remembered) (s : List ℕ) where
   count-early at =
       early-then Any Few (integerAt kept s at) _ (integer-early 2 0 at)
       (λ r e q. by-pick (Early Few) (isNegative (r .value)) _ _
-      (λ t. low Few 5 _ (omega arith))
-      (λ t. by-pick (Early Few) (leb (natAbs (r .value)) 256) _ _ (λ u. early Few _ (leb-true (natAbs (r .value)) 256 u)) (λ u. low Few 5 _ (omega arith))))
+      (λ t. low Few 5 _ refl)
+      (λ t. by-pick (Early Few) (leb (natAbs (r .value)) 256) _ _ (λ u. early Few _ (leb-true (natAbs (r .value)) 256 u)) (λ u. low Few 5 _ refl)))
 
   -- ---- points
 
@@ -107,7 +107,7 @@ module _ (kept : Remembered) (s : List ℕ) where
       (λ b e q. by-pick (Early Any) (ltb (b .value) 64) _ _ (λ u. f b) (λ u. by-pick (Early Any) (ltb (b .value) 96) _ _ (λ v. g b) (λ v. h b)))
 
   not-here : (b : Read ℕ) → Early Any (notAllowed b)
-  not-here b = low Any 3 _ (omega arith)
+  not-here b = low Any 3 _ refl
 
   lo-early : (c : PointBytes) (b : Read ℕ) → Early Any (loX c b)
   unfolding endsAt
@@ -190,12 +190,12 @@ letter-early : (s : List ℕ) (at : ℕ) → Early Any (letterAt s at)
 unfolding letterAt
 letter-early s at =
     by-pick (Early Any) (ltb at (length s)) _ _
-    (λ t. by-pick (Early Any) (eqb (getD s at 0) 27) _ _ (λ u. low Any 6 _ (omega arith)) (λ u. early Any _ tt))
-    (λ t. low Any 1 _ (omega arith))
+    (λ t. by-pick (Early Any) (eqb (getD s at 0) 27) _ _ (λ u. low Any 6 _ refl) (λ u. early Any _ tt))
+    (λ t. low Any 1 _ refl)
 
 completed-early : (a b p : ℕ) (f : Found) → Early Any (completed a b p f)
 completed-early a b p (Is k) = early Any _ tt
-completed-early a b p NoKind = low Any 2 p (omega arith)
+completed-early a b p NoKind = low Any 2 p refl
 
 head-early : (s : List ℕ) (at : ℕ) → Early Any (headAt s at)
 unfolding headAt secondAt
@@ -203,35 +203,24 @@ head-early s at =
     early-then Any Any (letterAt s at) _ (letter-early s at)
     (λ a e x. by-pick (Early Any) (begins a) _ _
     (λ t. early-then Any Any (letterAt s (at + 1)) _ (letter-early s (at + 1)) (λ b q y. completed-early a b (at + 1) (kindOf a b)))
-    (λ t. low Any 2 at (omega arith)))
+    (λ t. low Any 2 at refl))
 
-module _ (kept : Remembered) (s : List ℕ) (start room : ℕ) (j : inside (kept .point) ≡ true) (h : 256 ≤ room) where
-  command-early : Early Any (commandAt kept s start room)
-  unfolding commandAt bodyAt
-  command-early =
-      by-pick (Early Any) (ltb start (length s)) _ _
-      (λ t. early-then Any Any (headAt s (start + 1)) _ (head-early s (start + 1))
-      (λ l e x. early-then FewParsed Any (parametersAt kept (shapeOf (l .kind)) s (start + 3)) _ (parameters-early kept (shapeOf (l .kind)) s (start + 3) j)
-      (λ p q few. rw (le-leb (p .count) room (omega (arith, few, h))) (early Any _ tt))))
-      (λ t. low Any 1 _ (omega arith))
+-- a refusal has a number of 1 to 6, or it is 7 and the room is less than the longest list
+unfoldable pub Known : ℕ → Answer Meaning → Type 0
+Known room (done m) = Unit {0}
+Known room (refused e p) = ((1 ≤ e) × (e ≤ 6)) ⊎ ((e ≡ 7) × (room < mostEntries))
 
-  -- no item is left unread
-  AsRead : Itemed Meaning → Type 0
-  AsRead nothing = Unit {0}
-  AsRead (text b n) = Unit {0}
-  AsRead (command m) = Unit {0}
-  AsRead (refusedCommand e p n k) = Unit {0}
-  AsRead (refusedCall e p) = ⊥
+known-then : {A : Type 0} (room : ℕ) (P : A → Type 0) (a : Answer A) (k : A → Answer Meaning) → Early P a → ((x : A) → P x → Known room (k x)) → Known room (then a k)
+unfolding Early Known
+known-then room P (done x) k h next = next x h
+known-then room P (refused e p) k h next = inl h
 
-  item-read : (a : Answer Meaning) → Early Any a → AsRead (asItem kept s a)
-  unfolding Early AsRead
-  item-read (done m) e = tt
-  item-read (refused e p) q = by-pick AsRead (eqb e 7) _ _ (λ t. let z : e ≡ 7 = eqb-true e 7 t in omega (arith, z, q)) (λ t. tt)
-
-  pub always-read : start ≤ length s → {e p : ℕ} → itemAt kept s start room ≡ refusedCall e p → ⊥
-  unfolding itemAt commandItem AsRead
-  always-read l g = subst AsRead g
-      (rw (le-ltb (length s) start l, j)
-      (by-pick AsRead (ltb start (length s)) _ _
-      (λ t. by-pick AsRead (eqb (getD s start 0) 27) _ _ (λ u. item-read (commandAt kept s start room) command-early) (λ u. tt))
-      (λ t. tt)))
+module _ (kept : Remembered) (s : List ℕ) (start room : ℕ) (j : inside (kept .point) ≡ true) where
+  pub command-known : Known room (commandAt kept s start room)
+  unfolding commandAt bodyAt Known
+  command-known =
+      by-pick (Known room) (ltb start (length s)) _ _
+      (λ t. known-then room Any (headAt s (start + 1)) _ (head-early s (start + 1))
+      (λ l x. known-then room FewParsed (parametersAt kept (shapeOf (l .kind)) s (start + 3)) _ (parameters-early kept (shapeOf (l .kind)) s (start + 3) j)
+      (λ p few. by-pick (Known room) (leb (p .count) room) _ _ (λ u. tt) (λ u. let n = leb-false (p .count) room u in inr (refl, omega (arith, few, n))))))
+      (λ t. inl (omega arith, omega arith))

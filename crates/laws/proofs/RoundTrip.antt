@@ -5,7 +5,7 @@ use mathlib.Core.Path.{_≡_, refl, sym, _∙_, ap}
 use mathlib.Core.Bool.{Bool, true, false, _&&_, _||_}
 use mathlib.Core.List.{List, [], _∷_, _++_, map}
 use native.Mathlib.Omega.{arith}
-use borrow.Author.Tests.{lt-ltb, le-leb, leb-true, eqb-true, ne-eqb}
+use borrow.Author.Tests.{lt-ltb, le-ltb, le-leb, leb-true, eqb-true, ne-eqb}
 use lib.Dec.{leb, eqb}
 use lib.ListN.{length, getD, length-append}
 use lib.IntN.{ℤ, pos, natAbs}
@@ -42,6 +42,7 @@ use Rattle.commands.specs.declared.Command.{Command}
 use Rattle.commands.specs.Reading.{letterAt, secondAt, headAt, Meaning, meaning, bodyAt, commandAt}
 use Rattle.writable.specs.Writable.{kindFor, kindNumber, sameKind, isKind, isEntry, areEntries, isValue, areValues, isTail, fits, isCommand}
 use Rattle.writing.specs.Writing.{spellEntry, spellEntries, spellValue, afterValue, spellValues, afterValues, spellTail, spellParameters, spellCommand}
+use Rattle.stream.specs.Items.{commandItem, itemAt}
 use Rattle.laws.specs.Laws.{carried, Back}
 
 -- what `Reads` says, taken apart
@@ -313,25 +314,30 @@ module _ (kept : Remembered) (c : Command) (es : List ℤ) (ok : isCommand kept 
   unfolding spellCommand spellParameters
   long = let a = length-append spelledValues spelledTail in omega arith
 
-  -- in room enough for its entries the command reads back
-  pub command-back : (room : ℕ) → length (carried (tailOf (c .parameters)) es) ≤ room → Back kept c es s start room
-  unfolding commandAt bodyAt parsed
+  escape : getD s start 0 ≡ 27
+  escape = let z : start ≡ start + 0 = omega arith in ap (λ (n : ℕ). getD s n 0) z ∙ letters .same 0 (omega arith)
+
+  -- in room enough for its entries the item at start is that command
+  pub command-back : (room : ℕ) → length (carried (tailOf (c .parameters)) es) ≤ room → Back kept c es (length (spellCommand kept c es)) s start room
+  unfolding itemAt commandItem commandAt bodyAt parsed
   command-back room h =
+      let i : start < length s = omega (arith, letters .room) in
       let t : leb (list-back .held .count) room ≡ true = le-leb (list-back .held .count) room (omega (arith, list-back .number-is)) in
       record {
         read = meaning (c .first) (c .second) s parsed;
-        whole = rw (lt-ltb start (length s) (omega (arith, letters .room)), head-back, parameters-back, t);
+        whole = rw (le-ltb (length s) start (omega (arith, i)), last-inside, lt-ltb start (length s) i, escape, head-back, parameters-back, t);
         first-is = refl;
         second-is = refl;
         values-are = refl;
         tail-is = refl;
         entries-are = list-back .entries-are;
+        count-is = list-back .number-is;
         next-is = omega (arith, list-back .next-is, long);
         kept-is = refl;
       }
 
 -- every writable command with its entries, written from a remembered point and read again from that point, also behind and in front of
 -- other bytes
-pub command-round : (kept : Remembered) (c : Command) (es : List ℤ) (before after : List ℕ) (room : ℕ) → isCommand kept c es ≡ true → length (carried (tailOf (c .parameters)) es) ≤ room → Back kept c es (before ++ (spellCommand kept c es ++ after)) (length before) room
+pub command-round : (kept : Remembered) (c : Command) (es : List ℤ) (before after : List ℕ) (room : ℕ) → isCommand kept c es ≡ true → length (carried (tailOf (c .parameters)) es) ≤ room → Back kept c es (length (spellCommand kept c es)) (before ++ (spellCommand kept c es ++ after)) (length before) room
 command-round kept c es before after room ok h =
     command-back kept c es ok (before ++ (spellCommand kept c es ++ after)) (length before) (stands-between before (spellCommand kept c es) after) room h

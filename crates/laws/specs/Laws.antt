@@ -1,17 +1,19 @@
--- What the laws of whole commands say. "A writable command, written and read again from the same remembered point, comes back with the same remembered
--- point after it. No spelling that reads as that command from that point is shorter." proofs/ proves it.
+-- What the laws of whole commands say, over the items that reading gives. Demand 2: "A writable command, written and read again from the same remembered
+-- point, comes back with the same remembered point after it. No spelling that reads as that command from that point is shorter." Demand 1: "Every input is
+-- answered: all byte strings". proofs/ proves it.
 use Prim.Native.Nat.{ℕ, zero, suc, _+_, _≤_, _<_}
 use mathlib.Core.Path.{_≡_}
 use mathlib.Core.List.{List, []}
-use lib.ListN.{length}
+use lib.ListN.{length, take}
 use lib.IntN.{ℤ}
 use Rattle.memory.specs.declared.Remembered.{Remembered}
 use Rattle.refusals.specs.Answers.{done}
+use Rattle.wire.specs.Sending.{afterWrite}
 use Rattle.parameters.specs.declared.Tail.{Tail}
 use Rattle.parameters.specs.declared.Tail.the-variants.{NoList, ListOf}
 use Rattle.parameters.specs.Shapes.{valuesOf, tailOf}
 use Rattle.commands.specs.declared.Command.{Command}
-use Rattle.commands.specs.Reading.{Meaning, commandAt}
+use Rattle.commands.specs.Reading.{Meaning}
 use Rattle.writing.specs.Writing.{afterValues, spellCommand}
 use Rattle.stream.specs.Items.{Itemed, nothing, text, command, refusedCommand, refusedCall, itemAt}
 
@@ -22,17 +24,22 @@ abbrev pub carried : Tail → List ℤ → List ℤ
 carried NoList es = []
 carried (ListOf e) es = es
 
--- the command c with its entries es was read from start on, in so much room
-pub record Back (kept : Remembered) (c : Command) (es : List ℤ) (s : List ℕ) (start room : ℕ) : Type 0 where
+-- the item that starts at start, read in so much room, is the command c with its entries es, and takes n bytes
+pub record Back (kept : Remembered) (c : Command) (es : List ℤ) (n : ℕ) (s : List ℕ) (start room : ℕ) : Type 0 where
   pub read : Meaning
-  pub whole : commandAt kept s start room ≡ done read
+  pub whole : itemAt kept s start room ≡ command read
   pub first-is : read .first ≡ c .first
   pub second-is : read .second ≡ c .second
   pub values-are : read .values ≡ valuesOf (c .parameters)
   pub tail-is : read .tail ≡ tailOf (c .parameters)
   pub entries-are : read .entries ≡ carried (tailOf (c .parameters)) es
-  pub next-is : read .next ≡ start + length (spellCommand kept c es)
+  pub count-is : read .count ≡ length (carried (tailOf (c .parameters)) es)
+  pub next-is : read .next ≡ start + n
   pub kept-is : read .kept ≡ afterValues kept (valuesOf (c .parameters))
+
+-- the bytes that `write_command` gives: so many of the lent ones as it leaves them
+abbrev pub given : Remembered → Command → List ℤ → (out : List ℕ) → (n : ℕ) → List ℕ
+given kept c es out n = take n (afterWrite (done n) (spellCommand kept c es) out 0)
 
 -- ---- the shortest spelling
 
@@ -49,15 +56,25 @@ NoShorter kept start c m = start + length (spellCommand kept c (m .entries)) ≤
 
 -- ---- the partition
 
--- an item, and the rest behind it: where none is left the bytes are at their end, and only 7 holds reading up
-unfoldable pub Onward : (Remembered → ℕ → Type 0) → List ℕ → Remembered → ℕ → Itemed Meaning → Type 0
-Onward rest s kept start nothing = start ≡ length s
-Onward rest s kept start (text b n) = ((start < n) × (n ≤ length s)) × rest kept n
-Onward rest s kept start (command m) = ((start < m .next) × (m .next ≤ length s)) × rest (m .kept) (m .next)
-Onward rest s kept start (refusedCommand e p n k) = ((start < n) × (n ≤ length s)) × rest k n
-Onward rest s kept start (refusedCall e p) = e ≡ 7
+-- an item, and the rest behind it: where none is left the bytes are at their end; a refused command has a number of 1 to 6 and a place behind its
+-- ESC, and leaves what is remembered; what makes no item holds reading up, where `held` lets its number
+unfoldable pub Onward : (held : ℕ → Type 0) → (rest : Remembered → ℕ → Type 0) → List ℕ → Remembered → ℕ → Itemed Meaning → Type 0
+Onward held rest s kept start nothing = start ≡ length s
+Onward held rest s kept start (text b n) = ((n ≡ start + 1) × (n ≤ length s)) × rest kept n
+Onward held rest s kept start (command m) = ((start < m .next) × (m .next ≤ length s)) × rest (m .kept) (m .next)
+Onward held rest s kept start (refusedCommand e p n k) =
+    (((1 ≤ e) × (e ≤ 6)) × ((start < p) × ((p ≤ n) × (n ≤ length s)))) × ((k ≡ kept) × rest k n)
+Onward held rest s kept start (refusedCall e p) = held e
 
 -- the bytes from start on are cut into at most k items, each starting where the one before it ends, and the last ending with the bytes
-unfoldable pub Parted : List ℕ → ℕ → ℕ → Remembered → ℕ → Type 0
-Parted s room zero kept start = start ≡ length s
-Parted s room (suc k) kept start = Onward (Parted s room k) s kept start (itemAt kept s start room)
+unfoldable pub Parted : (held : ℕ → Type 0) → List ℕ → (room k : ℕ) → Remembered → ℕ → Type 0
+Parted held s room zero kept start = start ≡ length s
+Parted held s room (suc k) kept start = Onward held (Parted held s room k) s kept start (itemAt kept s start room)
+
+-- in any room only 7 holds reading up
+abbrev pub BySeven : ℕ → Type 0
+BySeven e = e ≡ 7
+
+-- in room for the longest list nothing does
+abbrev pub ByNothing : ℕ → Type 0
+ByNothing e = ⊥

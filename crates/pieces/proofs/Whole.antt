@@ -10,7 +10,7 @@ use Rattle.memory.specs.Memory.{inside}
 use Rattle.refusals.proofs.Cases.{by-pick}
 use Rattle.commands.specs.Reading.{Meaning}
 use Rattle.stream.specs.Items.{Itemed, nothing, text, command, refusedCommand, refusedCall, itemAt, toldItem}
-use Rattle.laws.proofs.Room.{always-read}
+use Rattle.laws.proofs.Partition.{always-read}
 use Rattle.pieces.specs.declared.Piece.{Piece}
 use Rattle.pieces.specs.declared.Piece.the-variants.{End, Copied, Called}
 use Rattle.pieces.specs.Pieces.{isCall, commandPiece, pieceOf, pieceAt}

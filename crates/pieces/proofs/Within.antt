@@ -31,10 +31,10 @@ command-onward : (s : List ℕ) (start first second : ℕ) (values : List Value)
 unfolding commandPiece Onward
 command-onward s start first second values n k h = by-pick (Onward s start) (isCall first second) _ _ (λ t. h) (λ t. h)
 
-item-onward : (kept : Remembered) (s : List ℕ) (start : ℕ) (i : Itemed Meaning) → Ends s start i → Onward s start (pieceOf kept (toldItem i))
+item-onward : (kept : Remembered) (s : List ℕ) (start : ℕ) (i : Itemed Meaning) → Ends s 256 kept start i → Onward s start (pieceOf kept (toldItem i))
 unfolding Onward Ends pieceOf toldItem
 item-onward kept s start nothing h = tt
-item-onward kept s start (text b n) h = h
+item-onward kept s start (text b n) h = (omega (arith, h .0), h .1)
 item-onward kept s start (command m) h = command-onward s start (m .first) (m .second) (m .values) (m .next) (m .kept) (h .0)
 item-onward kept s start (refusedCommand e p n k) h = tt
 item-onward kept s start (refusedCall e p) h = tt
@@ -83,7 +83,7 @@ command-keeps : (first second : ℕ) (values : List Value) (n : ℕ) (k : Rememb
 unfolding commandPiece Keeps
 command-keeps first second values n k h = by-pick Keeps (isCall first second) _ _ (λ t. h) (λ t. h)
 
-item-keeps : (kept : Remembered) (s : List ℕ) (start : ℕ) → inside (kept .point) ≡ true → (i : Itemed Meaning) → Ends s start i → Keeps (pieceOf kept (toldItem i))
+item-keeps : (kept : Remembered) (s : List ℕ) (start : ℕ) → inside (kept .point) ≡ true → (i : Itemed Meaning) → Ends s 256 kept start i → Keeps (pieceOf kept (toldItem i))
 unfolding Keeps Ends pieceOf toldItem
 item-keeps kept s start j nothing h = tt
 item-keeps kept s start j (text b n) h = j
