@@ -14,8 +14,8 @@ use Rattle.memory.specs.Memory.{freshMemory, inside}
 use Rattle.refusals.proofs.Cases.{by-pick}
 use Rattle.commands.specs.Reading.{Meaning}
 use Rattle.stream.specs.Items.{Itemed, nothing, text, command, refusedCommand, refusedCall, itemAt, toldItem}
-use Rattle.laws.specs.Laws.{Onward, Parted}
-use Rattle.laws.proofs.Partition.{items-part}
+use Rattle.laws.specs.Laws.{Onward, Parted, ByNothing}
+use Rattle.laws.proofs.Partition.{every-stream-read}
 use Rattle.lines.specs.Lines.{lineOf}
 use Rattle.listing.specs.Listing.{nextStart, nextKept, entriesOf, lineThen, linesFrom, linesOf, listingWith, listingOf}
 
@@ -50,17 +50,16 @@ no-lines (suc k) s kept start h = none-then (linesFrom k s) kept start (itemAt k
 -- ---- more turns than items give no more lines
 
 abbrev Same : (j k : ℕ) (s : List ℕ) → Type 0
-Same j k s = (kept : Remembered) (start : ℕ) → Parted s 256 k kept start → linesFrom j s kept start ≡ linesFrom k s kept start
+Same j k s = (kept : Remembered) (start : ℕ) → Parted ByNothing s 256 k kept start → linesFrom j s kept start ≡ linesFrom k s kept start
 
-same-then : (j k : ℕ) (s : List ℕ) (kept : Remembered) (start : ℕ) → Same j k s → (i : Itemed Meaning) → itemAt kept s start 256 ≡ i → Onward (Parted s 256 k) s kept start i → lineThen (linesFrom j s) kept start i ≡ lineThen (linesFrom k s) kept start i
+same-then : (j k : ℕ) (s : List ℕ) (kept : Remembered) (start : ℕ) → Same j k s → (i : Itemed Meaning) → itemAt kept s start 256 ≡ i → Onward ByNothing (Parted ByNothing s 256 k) s kept start i → lineThen (linesFrom j s) kept start i ≡ lineThen (linesFrom k s) kept start i
 unfolding Onward lineThen toldItem nextKept nextStart NoItem
 same-then j k s kept start same (text b n) e h = rw (same kept n (h .1))
 same-then j k s kept start same (command m) e h = rw (same (m .kept) (m .next) (h .1))
-same-then j k s kept start same (refusedCommand x p n before) e h = rw (same before n (h .1))
+same-then j k s kept start same (refusedCommand x p n before) e h = rw (same before n (h .1 .1))
 same-then j k s kept start same nothing e h =
     let z : NoItem (itemAt kept s start 256) = rw e tt in rw (no-lines j s kept start z, no-lines k s kept start z)
-same-then j k s kept start same (refusedCall x p) e h =
-    let z : NoItem (itemAt kept s start 256) = rw e tt in rw (no-lines j s kept start z, no-lines k s kept start z)
+same-then j k s kept start same (refusedCall x p) e h = absurd h
 
 same-lines : (j k : ℕ) (s : List ℕ) → k ≤ j → Same j k s
 unfolding linesFrom Parted
@@ -71,7 +70,7 @@ same-lines (suc j) (suc k) s h kept start part =
 
 pub no-item-left : (s : List ℕ) (k : ℕ) → length s ≤ k → linesFrom k s freshMemory 0 ≡ linesOf s
 unfolding linesOf
-no-item-left s k h = same-lines k (length s) s h freshMemory 0 (items-part freshMemory s 256 refl)
+no-item-left s k h = same-lines k (length s) s h freshMemory 0 (every-stream-read freshMemory s 256 refl (omega arith))
 
 -- ---- the lister reads one byte more than it lists: that tells whether more input follows
 
