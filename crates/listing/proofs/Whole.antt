@@ -21,7 +21,7 @@ use Rattle.listing.specs.Listing.{nextStart, nextKept, entriesOf, lineTh
 
 -- ---- what is no item has no line, and nothing follows it
 
-NoItem : Itemed Meaning → Type 0
+unfoldable pub NoItem : Itemed Meaning → Type 0
 NoItem nothing = Unit {0}
 NoItem (text b n) = ⊥
 NoItem (command m) = ⊥
@@ -42,7 +42,7 @@ none-then rest kept start (command m) h = absurd h
 none-then rest kept start (refusedCommand e p n k) h = absurd h
 none-then rest kept start (refusedCall e p) h = refl
 
-no-lines : (k : ℕ) (s : List ℕ) (kept : Remembered) (start : ℕ) → NoItem (itemAt kept s start 256) → linesFrom k s kept start ≡ []
+pub no-lines : (k : ℕ) (s : List ℕ) (kept : Remembered) (start : ℕ) → NoItem (itemAt kept s start 256) → linesFrom k s kept start ≡ []
 unfolding linesFrom
 no-lines zero s kept start h = refl
 no-lines (suc k) s kept start h = none-then (linesFrom k s) kept start (itemAt kept s start 256) h ∙ no-lines k s kept start h
