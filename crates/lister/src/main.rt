@@ -18,8 +18,8 @@ fn print(written: Written, out: &[u8]) -> bool {
     }
 }
 
-// One byte more than is listed tells whether more input follows. No item has a line longer than 14 bytes for each of its own, and the last line
-// has 7 at most: the 65,536 bytes of the buffer are enough.
+// One byte more than is listed tells whether more input follows. A listing has 57,351 bytes at most (crates/listing/proofs/Lengths.antt) and
+// so fits the buffer of 65,536.
 fn main() {
     let mut input = [0; 4097];
     let mut out = io::large_buffer();

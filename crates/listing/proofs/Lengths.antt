@@ -1,23 +1,22 @@
 -- How long a listing is: no item has more than 14 bytes of line for each of its own bytes, and the last line has no more than 7. An R line for an item
 -- of one byte has 14: two ESCs, from place 1000 on.
-use Prim.Native.Nat.{ℕ, zero, suc, _+_, _-_, _*_, _/_, _%_, _≤_, _<_}
-use mathlib.Core.Path.{_≡_, refl, sym, _∙_, ap, subst}
-use mathlib.Core.Bool.{Bool, true, false, _&&_}
+use Prim.Native.Nat.{ℕ, zero, suc, _+_, _*_, _/_, _%_, _≤_, _<_}
+use mathlib.Core.Path.{_≡_, refl, ap, subst}
+use mathlib.Core.Bool.{Bool, true, false}
 use mathlib.Core.List.{List, [], _∷_, _++_, map}
 use native.Mathlib.Omega.{arith}
-use borrow.Author.Tests.{lt-ltb, ltb-true, ltb-false, leb-true}
+use borrow.Author.Tests.{lt-ltb, ltb-false, le-leb, leb-true}
 use lib.Dec.{ltb, leb, eqb}
 use lib.ListN.{length, getD, take, length-append, length-take}
 use lib.Seq.{take-all}
 use lib.IntN.{ℤ, pos, negsuc, natAbs}
-use Rattle.memory.specs.declared.Point.{Point}
 use Rattle.memory.specs.declared.Remembered.{Remembered}
 use Rattle.memory.specs.Memory.{inside, freshMemory}
-use Rattle.refusals.specs.Answers.{Answer, done, refused, every}
+use Rattle.refusals.specs.Answers.{Answer, done, refused}
 use Rattle.refusals.proofs.Cases.{by-pick, and-left, and-right, bool-apart}
 use Rattle.refusals.proofs.Many.{every-split}
 use Rattle.signs.specs.Signs.{isNegative, mostMagnitude}
-use Rattle.wire.specs.Sending.{sent}
+use Rattle.wire.specs.Sending.{sent, roomFor, writeAt}
 use Rattle.numbers.specs.Integers.{highsOf, lowOf, spellOf}
 use Rattle.table.specs.declared.Kind.{Kind}
 use Rattle.table.specs.declared.Kind.the-variants as K
@@ -255,8 +254,8 @@ module _ (s : List ℕ) (bytes : (i : ℕ) → getD s i 0 < 256) (most : length 
   then-few k kept start rest (command m) e t h =
       omega (arith, command-few kept s start m t (omega (arith, h .0, most)), rest (m .kept) (m .next) (h .1), length-append (commandLine (tell m) start (m .entries)) (linesFrom k s (m .kept) (m .next)))
   then-few k kept start rest (refusedCommand x p n before) e t h =
-      let where-it-is = h .0 .1 in
-      omega (arith, where-it-is, refused-few start x p (omega (arith, where-it-is, most)) (omega (arith, h .0 .0)) (omega (arith, where-it-is, most)), rest before n (h .1 .1), length-append (refusedLine start x p) (linesFrom k s before n))
+      let around = h .0 .1 in
+      omega (arith, around, refused-few start x p (omega (arith, around, most)) (omega (arith, h .0 .0)) (omega (arith, around, most)), rest before n (h .1 .1), length-append (refusedLine start x p) (linesFrom k s before n))
   then-few k kept start rest (refusedCall x p) e t h = absurd h
 
   lines-few : (k : ℕ) (kept : Remembered) (start : ℕ) → Parted ByNothing s 256 k kept start → Short k kept start
@@ -284,3 +283,8 @@ listing-few input bytes =
     by-pick (λ (w : List ℕ). length w ≤ 57351) (ltb 4096 (length input)) _ _
     (λ t. with-few (take 4096 input) (front-bytes 4096 input bytes) (omega (arith, length-take 4096 input)) true)
     (λ t. with-few input bytes (ltb-false 4096 (length input) t) false)
+
+-- in such room it is always written
+pub always-fits : (input : List ℕ) (room : ℕ) → ((i : ℕ) → getD input i 0 < 256) → 57351 ≤ room → writeAt (listingOf input) room 0 ≡ done (0 + length (listingOf input))
+unfolding writeAt roomFor
+always-fits input room bytes h = rw (le-leb (0 + length (listingOf input)) room (omega (arith, listing-few input bytes)))

@@ -2,8 +2,7 @@
 -- entries alone, whatever the lent list held before.
 use Prim.Native.Nat.{ℕ, _+_, _≤_}
 use mathlib.Core.Path.{_≡_, refl, sym, _∙_, ap}
-use mathlib.Core.Bool.{Bool, true, false}
-use mathlib.Core.List.{List, [], _∷_, _++_}
+use mathlib.Core.List.{List, _++_}
 use native.Mathlib.Omega.{arith}
 use borrow.Author.Tests.{leb-true}
 use lib.Dec.{ltb, leb, eqb}
@@ -18,7 +17,7 @@ use Rattle.parameters.specs.declared.Tail.{Tail}
 use Rattle.parameters.specs.declared.Tail.the-variants.{NoList, ListOf}
 use Rattle.parameters.specs.Shapes.{shapeOf}
 use Rattle.parameters.specs.Looking.{parametersAt}
-use Rattle.commands.specs.Reading.{Meaning, tell, headAt, bodyAt, commandAt}
+use Rattle.commands.specs.Reading.{Meaning, headAt, bodyAt, commandAt}
 use Rattle.stream.specs.Items.{Itemed, nothing, text, command, refusedCommand, refusedCall, asItem, commandItem, itemAt, toldItem, afterItem}
 use Rattle.laws.proofs.Shortest.{command-shown}
 use Rattle.lines.specs.Decimals.{field, fields}

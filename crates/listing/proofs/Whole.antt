@@ -1,14 +1,14 @@
 -- No item is left out: the turns of the definition never run out before the bytes do; and one byte behind those that are listed tells that
 -- more input follows.
-use Prim.Native.Nat.{ℕ, zero, suc, _+_, _≤_, _<_}
-use mathlib.Core.Path.{_≡_, refl, sym, _∙_, ap}
+use Prim.Native.Nat.{ℕ, zero, suc, _≤_, _<_}
+use mathlib.Core.Path.{_≡_, refl, _∙_, ap}
 use mathlib.Core.Bool.{Bool, true, false}
-use mathlib.Core.List.{List, [], _∷_, _++_}
+use mathlib.Core.List.{List, []}
 use native.Mathlib.Omega.{arith}
 use borrow.Author.Tests.{lt-ltb, le-ltb, ltb-true, ltb-false}
 use lib.ListN.{length, take, length-take}
 use lib.Seq.{take-take, take-all}
-use lib.Dec.{ltb, eqb}
+use lib.Dec.{ltb}
 use Rattle.memory.specs.declared.Remembered.{Remembered}
 use Rattle.memory.specs.Memory.{freshMemory, inside}
 use Rattle.refusals.proofs.Cases.{by-pick}
@@ -17,7 +17,7 @@ use Rattle.stream.specs.Items.{Itemed, nothing, text, command, refusedCommand, 
 use Rattle.laws.specs.Laws.{Onward, Parted, ByNothing}
 use Rattle.laws.proofs.Partition.{every-stream-read}
 use Rattle.lines.specs.Lines.{lineOf}
-use Rattle.listing.specs.Listing.{nextStart, nextKept, entriesOf, lineThen, linesFrom, linesOf, listingWith, listingOf}
+use Rattle.listing.specs.Listing.{nextStart, nextKept, lineThen, linesFrom, linesOf, listingWith, listingOf}
 
 -- ---- what is no item has no line, and nothing follows it
 

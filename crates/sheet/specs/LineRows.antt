@@ -1,6 +1,6 @@
 -- The listing of document 01's example, from its 13 bytes, and a line of each other sort.
 use Prim.Native.Nat.{ℕ}
-use mathlib.Core.Bool.{true, false}
+use mathlib.Core.Bool.{true}
 use mathlib.Core.List.{List, [], _∷_}
 use lib.IntN.{ℤ, pos, negsuc}
 use Rattle.memory.specs.Memory.{freshMemory}
