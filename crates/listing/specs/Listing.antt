@@ -48,11 +48,11 @@ unfoldable pub linesFrom : ℕ → List ℕ → Remembered → ℕ → List ℕ
 linesFrom zero s kept start = []
 linesFrom (suc k) s kept start = lineThen (linesFrom k s) kept start (itemAt kept s start mostEntries)
 
--- the lines of all items of s: each takes a byte at least, so there are no more items than bytes, and proofs/Whole.antt shows that none is
--- left out
+-- the lines of all items of s. Each takes a byte at least, so there are no more items than bytes; that none is left out is a law, `no-item-left`
 unfoldable pub linesOf : List ℕ → List ℕ
 linesOf s = linesFrom (length s) s freshMemory 0
 
+-- the listing of the bytes read, "taken as the whole": the lines of their items, then the last line
 unfoldable pub listingWith : (more : Bool) → List ℕ → List ℕ
 listingWith more s = linesOf s ++ lastLine more (length s)
 
@@ -60,6 +60,6 @@ listingWith more s = linesOf s ++ lastLine more (length s)
 abbrev pub mostBytes : ℕ
 mostBytes = 4096
 
--- the listing of all input
+-- the listing of standard input, of which the bytes behind the 4,096 tell only that more follows
 unfoldable pub listingOf : List ℕ → List ℕ
 listingOf input = pick (ltb mostBytes (length input)) (listingWith true (take mostBytes input)) (listingWith false input)

@@ -12,7 +12,7 @@ use stream::Item;
 use wire::Written;
 
 // "It reads up to 4,096 bytes of standard input": what stands behind them tells only that more follows.
-pub const MOST_BYTES: usize = 4096;
+const MOST_BYTES: usize = 4096;
 
 // Where the next item starts: where this one ends.
 fn next_start(item: Item, start: usize) -> usize
