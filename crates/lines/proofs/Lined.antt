@@ -1,22 +1,16 @@
 -- The lines, by what their parts poured.
-use Prim.Native.Nat.{ℕ, _+_, _-_, _*_, _^_, _≤_, _<_, min}
+use Prim.Native.Nat.{ℕ, _-_, _*_, _^_, _<_, min}
 use mathlib.Core.Path.{_≡_, sym, _∙_, ap}
-use mathlib.Core.Bool.{Bool, true, false}
-use mathlib.Core.List.{List, [], _∷_, _++_}
+use mathlib.Core.Bool.{Bool}
+use mathlib.Core.List.{List, [], _∷_}
 use mathlib.Core.Logic.{⊎-elim}
 use native.Mathlib.Nat.{eq-zero-or-pos}
 use native.Mathlib.Omega.{arith}
-use borrow.Author.Tests.{le-leb, lt-leb}
 use lib.ListN.{length, take, length-take}
 use lib.Seq.{length-take-le, take-all}
 use lib.IntN.{ℤ, pos}
 use Rattle.refusals.specs.declared.Refusal.{Refusal}
-use Rattle.refusals.specs.declared.Refusal.the-variants.{TooShort}
 use Rattle.refusals.specs.Refusals.{numberOf}
-use Rattle.refusals.proofs.Many.{past-end}
-use Rattle.wire.specs.declared.Written.{Written}
-use Rattle.wire.specs.declared.Written.the-variants.{Next}
-use Rattle.wire.specs.Sending.{writtenOf, roomFor, writeAt, afterWrite}
 use Rattle.parameters.specs.declared.Parameters.{Parameters}
 use Rattle.parameters.specs.declared.Entry.{Entry}
 use Rattle.parameters.specs.declared.Numbers.{Numbers}
@@ -24,14 +18,15 @@ use Rattle.parameters.specs.declared.Tail.{Tail}
 use Rattle.parameters.specs.declared.Tail.the-variants.{NoList, ListOf}
 use Rattle.parameters.specs.Shapes.{Value, valuesOf, tailOf}
 use Rattle.parameters.specs.Numbers.{numbersOf, Holds}
-use Rattle.commands.specs.declared.Command.{Command}
 use Rattle.commands.specs.declared.TakenCommand.{TakenCommand}
+use Rattle.commands.specs.Reading.{tellTaken}
 use Rattle.stream.specs.declared.TextItem.{TextItem}
 use Rattle.stream.specs.declared.RefusedItem.{RefusedItem}
 use Rattle.stream.specs.declared.Item.{Item}
 use Rattle.stream.specs.declared.Item.the-variants.{Nothing, Text}
+use Rattle.stream.specs.Items.{itemOf}
 use Rattle.lines.specs.Decimals.{field, fields}
-use Rattle.lines.specs.Pouring.{far, behind, Put}
+use Rattle.lines.specs.Pouring.{Put}
 use Rattle.lines.specs.Lines.{listed, opening, textLine, letters, commandHead, parametersWords, commandLine, pair, refusedLine, lineOf, lastLetter, lastLine}
 use Rattle.lines.proofs.Pours.{poured-none, poured-both, poured-long}
 
@@ -65,101 +60,65 @@ pub ruleset lists = (front-long, fixed-poured, least-long, list-poured, no-list,
 
 -- ---- the lines
 
-module _ {l o : List ℕ} {n : ℕ} where
-  pub opening-poured : (x start : ℕ) {l₁ : List ℕ} {i : ℕ} → Put l₁ i (field (pos start)) n o → Put l 0 (x ∷ []) i l₁ → Put l 0 (opening x start) n o
+module _ {l o : List ℕ} {at n : ℕ} where
+  pub opening-poured : (x start : ℕ) {l₁ : List ℕ} {i : ℕ} → Put l₁ i (field (pos start)) n o → Put l at (x ∷ []) i l₁ → Put l at (opening x start) n o
   unfolding opening
   opening-poured x start b a = poured-both b a
 
-  pub text-poured : (start b : ℕ) {l₁ l₂ : List ℕ} {i j : ℕ} → Put l₂ j (10 ∷ []) n o → Put l₁ i (field (pos b)) j l₂ → Put l 0 (opening 84 start) i l₁ → Put l 0 (textLine start b) n o
+  pub text-poured : (start b : ℕ) {l₁ l₂ : List ℕ} {i j : ℕ} → Put l₂ j (10 ∷ []) n o → Put l₁ i (field (pos b)) j l₂ → Put l at (opening 84 start) i l₁ → Put l at (textLine start b) n o
   unfolding textLine
   text-poured s v c b a = poured-both c (poured-both b a)
 
-  pub letters-poured : {x y at : ℕ} {l₁ l₂ : List ℕ} {i j : ℕ} → Put l₂ j (y ∷ []) n o → Put l₁ i (x ∷ []) j l₂ → Put l at (32 ∷ []) i l₁ → Put l at (letters x y) n o
+  pub letters-poured : {x y : ℕ} {l₁ l₂ : List ℕ} {i j : ℕ} → Put l₂ j (y ∷ []) n o → Put l₁ i (x ∷ []) j l₂ → Put l at (32 ∷ []) i l₁ → Put l at (letters x y) n o
   unfolding letters
   letters-poured c b a = poured-both c (poured-both b a)
 
-  pub pair-poured : (a b : ℕ) {l₁ : List ℕ} {at i : ℕ} → Put l₁ i (field (pos b)) n o → Put l at (field (pos a)) i l₁ → Put l at (pair a b) n o
+  pub pair-poured : (a b : ℕ) {l₁ : List ℕ} {i : ℕ} → Put l₁ i (field (pos b)) n o → Put l at (field (pos a)) i l₁ → Put l at (pair a b) n o
   unfolding pair
   pair-poured x y b a = poured-both b a
 
-  pub refused-poured : (start p : ℕ) (x : Refusal) {e : ℕ} {l₁ l₂ : List ℕ} {i j : ℕ} → Put l₂ j (10 ∷ []) n o → Put l₁ i (pair e p) j l₂ → Put l 0 (opening 82 start) i l₁ → e ≡ numberOf x → Put l 0 (refusedLine start (numberOf x) p) n o
+  pub refused-poured : (start e p : ℕ) {l₁ l₂ : List ℕ} {i j : ℕ} → Put l₂ j (10 ∷ []) n o → Put l₁ i (pair e p) j l₂ → Put l at (opening 82 start) i l₁ → Put l at (refusedLine start e p) n o
   unfolding refusedLine
-  refused-poured start p x c b a e = rw (← e) (poured-both c (poured-both b a))
+  refused-poured start e p c b a = poured-both c (poured-both b a)
 
-  pub parameters-poured : (ps : Parameters) (count : ℕ) (list : List ℤ) {l₁ : List ℕ} {at i : ℕ} → Put l₁ i (listed (tailOf ps) count list) n o → Put l at (fields (numbersOf (valuesOf ps))) i l₁ → Put l at (parametersWords ps count list) n o
+  pub parameters-poured : (ps : Parameters) (count : ℕ) (list : List ℤ) {l₁ : List ℕ} {i : ℕ} → Put l₁ i (listed (tailOf ps) count list) n o → Put l at (fields (numbersOf (valuesOf ps))) i l₁ → Put l at (parametersWords (valuesOf ps) (tailOf ps) count list) n o
   unfolding parametersWords
   parameters-poured ps count list b a = poured-both b a
 
-  pub head-poured : (start x y : ℕ) {l₁ : List ℕ} {i : ℕ} → Put l₁ i (letters x y) n o → Put l 0 (opening 67 start) i l₁ → Put l 0 (commandHead start x y) n o
+  pub head-poured : (start x y : ℕ) {l₁ : List ℕ} {i : ℕ} → Put l₁ i (letters x y) n o → Put l at (opening 67 start) i l₁ → Put l at (commandHead start x y) n o
   unfolding commandHead
   head-poured start x y b a = poured-both b a
 
-  pub command-poured : (c : Command) (count start : ℕ) (list : List ℤ) {l₁ l₂ : List ℕ} {i j : ℕ} → Put l₂ j (10 ∷ []) n o → Put l₁ i (parametersWords (c .parameters) count list) j l₂ → Put l 0 (commandHead start (c .first) (c .second)) i l₁ → Put l 0 (commandLine c count start list) n o
+  pub command-poured : (t : TakenCommand) (start : ℕ) (list : List ℤ) {l₁ l₂ : List ℕ} {i j : ℕ} → Put l₂ j (10 ∷ []) n o → Put l₁ i (parametersWords (valuesOf (t .command .parameters)) (tailOf (t .command .parameters)) (t .count) list) j l₂ → Put l at (commandHead start (t .command .first) (t .command .second)) i l₁ → Put l at (commandLine (tellTaken t) start list) n o
   unfolding commandLine
-  command-poured c k s v d b a = poured-both d (poured-both b a)
+  command-poured t s v d b a = poured-both d (poured-both b a)
 
-  pub last-poured : (more : Bool) (k : ℕ) {x : ℕ} {l₁ : List ℕ} {i : ℕ} → Put l₁ i (10 ∷ []) n o → Put l 0 (opening x k) i l₁ → x ≡ lastLetter more → Put l 0 (lastLine more k) n o
+  pub last-poured : (more : Bool) (k : ℕ) {x : ℕ} {l₁ : List ℕ} {i : ℕ} → Put l₁ i (10 ∷ []) n o → Put l at (opening x k) i l₁ → x ≡ lastLetter more → Put l at (lastLine more k) n o
   unfolding lastLine
   last-poured m k b a e = rw (← e) (poured-both b a)
 
 -- ---- by item
 
 module _ (it : Item) (start : ℕ) (list : List ℤ) where
-  pub line-nothing : (l : List ℕ) → it ≡ Nothing → length l * 1 < 2 ^ 63 → Put l 0 (lineOf it start list) 0 l
-  unfolding lineOf
-  line-nothing l g h = rw g (poured-none l 0 h)
+  pub line-nothing : (l : List ℕ) (at : ℕ) → it ≡ Nothing → length l * 1 < 2 ^ 63 → Put l at (lineOf (itemOf it) start list) at l
+  unfolding lineOf itemOf
+  line-nothing l at g h = rw g (poured-none l at h)
 
-  pub line-refused-call : (l : List ℕ) {e : Refusal} {p : ℕ} → it ≡ Item.Refused e p → length l * 1 < 2 ^ 63 → Put l 0 (lineOf it start list) 0 l
-  unfolding lineOf
-  line-refused-call l g h = rw g (poured-none l 0 h)
+  pub line-refused-call : (l : List ℕ) (at : ℕ) {e : Refusal} {p : ℕ} → it ≡ Item.Refused e p → length l * 1 < 2 ^ 63 → Put l at (lineOf (itemOf it) start list) at l
+  unfolding lineOf itemOf
+  line-refused-call l at g h = rw g (poured-none l at h)
 
-  module _ {l o : List ℕ} {n : ℕ} where
-    pub line-text : {t : TextItem} → it ≡ Text t → Put l 0 (textLine start (t .byte)) n o → Put l 0 (lineOf it start list) n o
-    unfolding lineOf
+  module _ {l o : List ℕ} {at n : ℕ} where
+    pub line-text : {t : TextItem} → it ≡ Text t → Put l at (textLine start (t .byte)) n o → Put l at (lineOf (itemOf it) start list) n o
+    unfolding lineOf itemOf
     line-text g h = rw g h
 
-    pub line-command : {t : TakenCommand} → it ≡ Item.Command t → Put l 0 (commandLine (t .command) (t .count) start list) n o → Put l 0 (lineOf it start list) n o
-    unfolding lineOf
+    pub line-command : {t : TakenCommand} → it ≡ Item.Command t → Put l at (commandLine (tellTaken t) start list) n o → Put l at (lineOf (itemOf it) start list) n o
+    unfolding lineOf itemOf
     line-command g h = rw g h
 
-    pub line-refused-command : {i : RefusedItem} → it ≡ Item.RefusedCommand i → Put l 0 (refusedLine start (numberOf (i .refusal)) (i .place)) n o → Put l 0 (lineOf it start list) n o
-    unfolding lineOf
-    line-refused-command g h = rw g h
+    pub line-refused-command : {i : RefusedItem} {e : ℕ} → it ≡ Item.RefusedCommand i → e ≡ numberOf (i .refusal) → Put l at (refusedLine start e (i .place)) n o → Put l at (lineOf (itemOf it) start list) n o
+    unfolding lineOf itemOf
+    line-refused-command g e h = rw (g, ← e) h
 
 pub ruleset items = (line-nothing, line-refused-call, line-text, line-command, line-refused-command, poured-long)
-
--- ---- poured on nothing, to learn the length; and then on the lent bytes
-
-module _ (w l : List ℕ) {q : List ℕ} {m : ℕ} (dry : Put [] 0 w m q) where
-  kept : q ++ l ≡ l
-  kept = let e : q ≡ [] = dry .stands ∙ past-end [] 0 w (omega arith) in rw e
-
-  size : m ≡ min (length w) far
-  unfolding behind
-  size = omega (arith, dry .next)
-
-  pub line-kept : (e : Refusal) → q ++ l ≡ afterWrite (writtenOf (Written.Refused e)) w l 0
-  unfolding writtenOf afterWrite
-  line-kept e = kept
-
-  pub line-short : length (q ++ l) < m → writtenOf (Written.Refused TooShort) ≡ writeAt w (length l) 0
-  unfolding writtenOf writeAt roomFor
-  line-short h =
-      let z = size in
-      let i : length l < m = rw kept at h in
-      rw (lt-leb (0 + length w) (length l) (omega arith))
-
-  module _ {o : List ℕ} {n : ℕ} (wet : Put (q ++ l) 0 w n o) where
-    pub line-stands : o ≡ afterWrite (writtenOf (Next n)) w l 0
-    unfolding writtenOf afterWrite
-    line-stands = rw kept at (wet .stands)
-
-    pub line-fits : m ≤ length (q ++ l) → writtenOf (Next n) ≡ writeAt w (length l) 0
-    unfolding writtenOf writeAt roomFor behind
-    line-fits h =
-        let i : m ≤ length l = rw kept at h in
-        let j : length l < far = rw kept at (wet .room) in
-        let z : n ≡ 0 + length w = omega (arith, size, wet .next) in
-        rw (le-leb (0 + length w) (length l) (omega (arith, size)), z)
-
-pub ruleset writings = (line-kept, line-short, line-stands, line-fits, poured-long)

@@ -5,15 +5,12 @@ use mathlib.Core.Bool.{Bool, true, false}
 use mathlib.Core.List.{List, [], _∷_, _++_}
 use lib.ListN.{take}
 use lib.IntN.{ℤ, pos}
-use Rattle.refusals.specs.Refusals.{numberOf}
-use Rattle.parameters.specs.declared.Parameters.{Parameters}
 use Rattle.parameters.specs.declared.Tail.{Tail}
 use Rattle.parameters.specs.declared.Tail.the-variants.{NoList, ListOf}
-use Rattle.parameters.specs.Shapes.{valuesOf, tailOf}
+use Rattle.parameters.specs.Shapes.{Value}
 use Rattle.parameters.specs.Numbers.{numbersOf}
-use Rattle.commands.specs.declared.Command.{Command}
-use Rattle.stream.specs.declared.Item.{Item}
-use Rattle.stream.specs.declared.Item.the-variants.{Nothing, Text}
+use Rattle.commands.specs.Reading.{ToldCommand}
+use Rattle.stream.specs.Items.{Itemed, nothing, text, command, refusedCommand, refusedCall}
 use Rattle.lines.specs.Decimals.{field, fields}
 
 -- the count and the entries, where the parameters have any
@@ -37,12 +34,12 @@ letters a b = (32 ∷ []) ++ (a ∷ []) ++ (b ∷ [])
 unfoldable pub commandHead : (start first second : ℕ) → List ℕ
 commandHead start a b = opening 67 start ++ letters a b
 
-unfoldable pub parametersWords : Parameters → ℕ → List ℤ → List ℕ
-parametersWords ps k list = fields (numbersOf (valuesOf ps)) ++ listed (tailOf ps) k list
+unfoldable pub parametersWords : List Value → Tail → ℕ → List ℤ → List ℕ
+parametersWords vs t k list = fields (numbersOf vs) ++ listed t k list
 
-unfoldable pub commandLine : Command → ℕ → ℕ → List ℤ → List ℕ
-commandLine c k start list =
-    commandHead start (c .first) (c .second) ++ parametersWords (c .parameters) k list ++ newline
+unfoldable pub commandLine : ToldCommand → ℕ → List ℤ → List ℕ
+commandLine c start list =
+    commandHead start (c .first) (c .second) ++ parametersWords (c .values) (c .tail) (c .count) list ++ newline
 
 unfoldable pub pair : ℕ → ℕ → List ℕ
 pair a b = field (pos a) ++ field (pos b)
@@ -51,12 +48,12 @@ unfoldable pub refusedLine : (start refusal place : ℕ) → List ℕ
 refusedLine start e p = opening 82 start ++ pair e p ++ newline
 
 -- the line of the item that starts at start; no item has none
-unfoldable pub lineOf : Item → ℕ → List ℤ → List ℕ
-lineOf Nothing start list = []
-lineOf (Text t) start list = textLine start (t .byte)
-lineOf (Item.Command t) start list = commandLine (t .command) (t .count) start list
-lineOf (Item.RefusedCommand r) start list = refusedLine start (numberOf (r .refusal)) (r .place)
-lineOf (Item.Refused e p) start list = []
+unfoldable pub lineOf : Itemed ToldCommand → ℕ → List ℤ → List ℕ
+lineOf nothing start list = []
+lineOf (text b n) start list = textLine start b
+lineOf (command c) start list = commandLine c start list
+lineOf (refusedCommand e p n kept) start list = refusedLine start e p
+lineOf (refusedCall e p) start list = []
 
 -- "Last: E and the bytes read, or M 4096 if more input follows"
 abbrev pub lastLetter : Bool → ℕ

@@ -1,23 +1,19 @@
-// The lister's lines: one for each item of a host stream, and the last one.
-// A line is poured twice: once on no bytes, to learn how long it is, and, where it fits, once on the lent ones.
+// The lister's lines: one for each item of a host stream, and the last one. They are poured, so that one stands behind another.
 ghost use mathlib.Core.Path.{_≡_};
 ghost use mathlib.Core.List.{[], _∷_};
 ghost use Prim.Native.Nat.{min};
-ghost use lib.ListN.{length};
 ghost use lib.IntN.{pos};
-ghost use Rattle.wire.specs.Sending.{writeAt, afterWrite, writtenOf};
-ghost use Rattle.refusals.specs.Refusals.{numberOf};
 ghost use Rattle.parameters.specs.Shapes.{valuesOf, tailOf};
 ghost use Rattle.parameters.specs.Numbers.{numbersOf};
+ghost use Rattle.commands.specs.Reading.{tellTaken};
+ghost use Rattle.stream.specs.Items.{itemOf};
 ghost use Rattle.lines.specs.Decimals.{decimal, field, fields};
 ghost use Rattle.lines.specs.Pouring.{Put};
 ghost use Rattle.lines.specs.Lines.{listed, opening, textLine, letters, commandHead, parametersWords, commandLine, pair, refusedLine, lineOf, lastLetter, lastLine};
-use commands::Command;
+use commands::TakenCommand;
 use parameters::Parameters;
 use parameters::Tail;
-use refusals::Refusal;
 use stream::Item;
-use wire::Written;
 
 // No lent bytes are as many: a count of bytes stops here.
 const FAR: usize = 9223372036854775808;
@@ -128,7 +124,7 @@ fn put_parameters(
     out: &mut [u8],
     at: usize,
 ) -> usize
-    ensures { λ r. ⌜ Put (now (out .entry)) at (parametersWords parameters count (now (list .entry))) r (now (out .exit)) ⌝ }
+    ensures { λ r. ⌜ Put (now (out .entry)) at (parametersWords (valuesOf parameters) (tailOf parameters) count (now (list .entry))) r (now (out .exit)) ⌝ }
 {
     let next = put_fixed(parameters, out, at);
     put_list(parameters, count, list, out, next)
@@ -137,17 +133,17 @@ fn put_parameters(
 // ---- the lines
 
 // A letter and where the item starts.
-fn put_opening(letter: u8, start: usize, out: &mut [u8]) -> usize
-    ensures { λ r. ⌜ Put (now (out .entry)) 0 (opening letter start) r (now (out .exit)) ⌝ }
+fn put_opening(letter: u8, start: usize, out: &mut [u8], at: usize) -> usize
+    ensures { λ r. ⌜ Put (now (out .entry)) at (opening letter start) r (now (out .exit)) ⌝ }
 {
-    let next = put(letter, out, 0);
+    let next = put(letter, out, at);
     put_natural(start, out, next)
 }
 
-fn put_text(start: usize, b: u8, out: &mut [u8]) -> usize
-    ensures { λ r. ⌜ Put (now (out .entry)) 0 (textLine start b) r (now (out .exit)) ⌝ }
+fn put_text(start: usize, b: u8, out: &mut [u8], at: usize) -> usize
+    ensures { λ r. ⌜ Put (now (out .entry)) at (textLine start b) r (now (out .exit)) ⌝ }
 {
-    let one = put_opening(b'T', start, out);
+    let one = put_opening(b'T', start, out, at);
     let two = put_natural(b as usize, out, one);
     put(b'\n', out, two)
 }
@@ -161,19 +157,20 @@ fn put_letters(first: u8, second: u8, out: &mut [u8], at: usize) -> usize
     put(second, out, two)
 }
 
-fn put_head(start: usize, first: u8, second: u8, out: &mut [u8]) -> usize
-    ensures { λ r. ⌜ Put (now (out .entry)) 0 (commandHead start first second) r (now (out .exit)) ⌝ }
+fn put_head(start: usize, first: u8, second: u8, out: &mut [u8], at: usize) -> usize
+    ensures { λ r. ⌜ Put (now (out .entry)) at (commandHead start first second) r (now (out .exit)) ⌝ }
 {
-    let next = put_opening(b'C', start, out);
+    let next = put_opening(b'C', start, out, at);
     put_letters(first, second, out, next)
 }
 
-fn put_command(command: Command, count: usize, start: usize, list: &[i32], out: &mut [u8]) -> usize
-    ensures { λ r. ⌜ Put (now (out .entry)) 0 (commandLine command count start (now (list .entry))) r (now (out .exit)) ⌝ }
+fn put_command(taken: TakenCommand, start: usize, list: &[i32], out: &mut [u8], at: usize) -> usize
+    ensures { λ r. ⌜ Put (now (out .entry)) at (commandLine (tellTaken taken) start (now (list .entry))) r (now (out .exit)) ⌝ }
 {
+    let command = taken.command;
     let parameters = command.parameters;
-    let one = put_head(start, command.first, command.second, out);
-    let two = put_parameters(parameters, count, list, out, one);
+    let one = put_head(start, command.first, command.second, out, at);
+    let two = put_parameters(parameters, taken.count, list, out, one);
     put(b'\n', out, two)
 }
 
@@ -184,30 +181,28 @@ fn put_pair(a: usize, b: usize, out: &mut [u8], at: usize) -> usize
     put_natural(b, out, next)
 }
 
-fn put_refused(start: usize, refusal: Refusal, place: usize, out: &mut [u8]) -> usize
-    ensures { λ r. ⌜ Put (now (out .entry)) 0 (refusedLine start (numberOf refusal) place) r (now (out .exit)) ⌝ }
+fn put_refused(start: usize, number: usize, place: usize, out: &mut [u8], at: usize) -> usize
+    ensures { λ r. ⌜ Put (now (out .entry)) at (refusedLine start number place) r (now (out .exit)) ⌝ }
 {
-    let number = refusals::number(refusal) as usize;
-    let one = put_opening(b'R', start, out);
+    let one = put_opening(b'R', start, out, at);
     let two = put_pair(number, place, out, one);
     put(b'\n', out, two)
 }
 
-fn put_line(item: Item, start: usize, list: &[i32], out: &mut [u8]) -> usize
-    ensures { λ r. ⌜ Put (now (out .entry)) 0 (lineOf item start (now (list .entry))) r (now (out .exit)) ⌝ }
+// The line of the item that starts at `start`, with its newline, from `at` on. Where there is no item the line is empty.
+pub fn put_line(item: Item, start: usize, list: &[i32], out: &mut [u8], at: usize) -> usize
+    ensures { λ r. ⌜ Put (now (out .entry)) at (lineOf (itemOf item) start (now (list .entry))) r (now (out .exit)) ⌝ }
 {
     match item {
-        Item::Nothing => 0,
-        Item::Text(text) => put_text(start, text.byte, out),
-        Item::Command(taken) => {
-            let command = taken.command;
-            put_command(command, taken.count, start, list, out)
-        }
+        Item::Nothing => at,
+        Item::Text(text) => put_text(start, text.byte, out, at),
+        Item::Command(taken) => put_command(taken, start, list, out, at),
         Item::RefusedCommand(refused) => {
             let refusal = refused.refusal;
-            put_refused(start, refusal, refused.place, out)
+            let number = refusals::number(refusal) as usize;
+            put_refused(start, number, refused.place, out, at)
         }
-        Item::Refused(_, _) => 0,
+        Item::Refused(_, _) => at,
     }
 }
 
@@ -220,33 +215,10 @@ fn last_letter(more: bool) -> u8
     b'E'
 }
 
-fn put_last(more: bool, n: usize, out: &mut [u8]) -> usize
-    ensures { λ r. ⌜ Put (now (out .entry)) 0 (lastLine more n) r (now (out .exit)) ⌝ }
+// "Last: E and the bytes read, or M 4096 if more input follows": `E n` or `M n`, with its newline, from `at` on.
+pub fn put_last(more: bool, n: usize, out: &mut [u8], at: usize) -> usize
+    ensures { λ r. ⌜ Put (now (out .entry)) at (lastLine more n) r (now (out .exit)) ⌝ }
 {
-    let next = put_opening(last_letter(more), n, out);
+    let next = put_opening(last_letter(more), n, out, at);
     put(b'\n', out, next)
-}
-
-// The line of the item that starts at `start`, with its newline, or 7. Where there is no item the line is empty.
-pub fn line(item: Item, start: usize, list: &[i32], out: &mut [u8]) -> Written
-    ensures { λ r. ⌜ (writtenOf r ≡ writeAt (lineOf item start (now (list .entry))) (length (now (out .entry))) 0) × (now (out .exit) ≡ afterWrite (writtenOf r) (lineOf item start (now (list .entry))) (now (out .entry)) 0) ⌝ }
-{
-    let size = put_line(item, start, list, &mut out[..0]);
-    if size > out.len() {
-        return Written::Refused(Refusal::TooShort);
-    }
-    let next = put_line(item, start, list, out);
-    Written::Next(next)
-}
-
-// "Last: E and the bytes read, or M 4096 if more input follows": `E n` or `M n`, with its newline, or 7.
-pub fn last_line(more: bool, n: usize, out: &mut [u8]) -> Written
-    ensures { λ r. ⌜ (writtenOf r ≡ writeAt (lastLine more n) (length (now (out .entry))) 0) × (now (out .exit) ≡ afterWrite (writtenOf r) (lastLine more n) (now (out .entry)) 0) ⌝ }
-{
-    let size = put_last(more, n, &mut out[..0]);
-    if size > out.len() {
-        return Written::Refused(Refusal::TooShort);
-    }
-    let next = put_last(more, n, out);
-    Written::Next(next)
 }

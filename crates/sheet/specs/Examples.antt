@@ -5,13 +5,15 @@ use Rattle.refusals.specs.Answers.{every, endsAfter, allAfter}
 use Rattle.wire.specs.Taking.{byteAt, pairAt}
 use Rattle.numbers.specs.Integers.{integerFrom}
 use Rattle.numbers.specs.Counts.{countIn}
+use Rattle.points.specs.Reading.{byKind, endsAt, lastAt, afterLoY, afterUpper, afterHiY, pointFrom, pointAt}
 use Rattle.table.specs.Table.{kindOf, begins}
 use Rattle.parameters.specs.Entries.{entryAt, runAt}
 use Rattle.parameters.specs.Looking.{partAt, fixedAt, tailAt, parametersAt}
 use Rattle.commands.specs.Reading.{letterAt, secondAt, headAt, bodyAt, commandAt}
-use Rattle.stream.specs.Items.{passedFrom, commandItem, itemAt, toldItem}
+use Rattle.stream.specs.Items.{passedFrom, commandItem, itemAt, toldItem, itemOf}
 use Rattle.lines.specs.Decimals.{digitsOf, decimal, field, fields}
 use Rattle.lines.specs.Lines.{listed, opening, textLine, letters, commandHead, parametersWords, commandLine, pair, refusedLine, lineOf, lastLine}
+use Rattle.listing.specs.Listing.{nextStart, nextKept, entriesOf, lineThen, linesFrom, linesOf, listingWith, listingOf}
 use Rattle.macros.specs.Store.{isStoreEntry, threeBytes, encoded, wellFormed, keep, bodyOf, bodyInEither, lookRefusal, findRefusal, lookedUp, placed}
 use Rattle.macros.specs.Store.{frontEntries}
 use Rattle.defining.specs.Defining.{mayDefine, beforeRoom, defineRefusal, storeAfter}
@@ -26,5 +28,5 @@ examples = store-examples ++ expansion-examples ++ line-examples
 
 -- the one claim
 pub all-as-shown : map given-of examples ≡ map paper-of examples
-unfolding every endsAfter allAfter byteAt pairAt integerFrom countIn kindOf begins entryAt runAt partAt fixedAt tailAt parametersAt letterAt secondAt headAt bodyAt commandAt passedFrom commandItem itemAt toldItem digitsOf decimal field fields listed opening textLine letters commandHead parametersWords commandLine pair refusedLine lineOf lastLine threeBytes encoded isStoreEntry frontEntries wellFormed keep bodyOf mayDefine beforeRoom defineRefusal storeAfter bodyInEither lookRefusal findRefusal lookedUp placed commandPiece pieceOf pieceAt walked entering callStretch started expandRefusal expandTold expandOut
+unfolding every endsAfter allAfter byteAt pairAt integerFrom countIn byKind endsAt lastAt afterLoY afterUpper afterHiY pointFrom pointAt kindOf begins entryAt runAt partAt fixedAt tailAt parametersAt letterAt secondAt headAt bodyAt commandAt passedFrom commandItem itemAt toldItem itemOf digitsOf decimal field fields listed opening textLine letters commandHead parametersWords commandLine pair refusedLine lineOf lastLine nextStart nextKept entriesOf lineThen linesFrom linesOf listingWith listingOf threeBytes encoded isStoreEntry frontEntries wellFormed keep bodyOf mayDefine beforeRoom defineRefusal storeAfter bodyInEither lookRefusal findRefusal lookedUp placed commandPiece pieceOf pieceAt walked entering callStretch started expandRefusal expandTold expandOut
 all-as-shown = refl

@@ -1,35 +1,36 @@
--- The lines of document 01's example, and one of each other sort.
+-- The listing of document 01's example, from its 13 bytes, and a line of each other sort.
 use Prim.Native.Nat.{ℕ}
-use mathlib.Core.Bool.{true, false}
+use mathlib.Core.Bool.{true}
 use mathlib.Core.List.{List, [], _∷_}
 use lib.IntN.{ℤ, pos, negsuc}
 use Rattle.memory.specs.Memory.{freshMemory}
-use Rattle.refusals.specs.declared.Refusal.the-variants.{BytesEnd, UnknownCommand}
+use Rattle.refusals.specs.declared.Refusal.the-variants.{BytesEnd}
 use Rattle.parameters.specs.declared.Parameters.{Parameters}
 use Rattle.parameters.specs.declared.Parameters.the-variants as P
 use Rattle.stream.specs.declared.Item.{Item}
 use Rattle.stream.specs.declared.Item.the-variants as I
+use Rattle.stream.specs.Items.{itemOf}
 use Rattle.lines.specs.Lines.{lineOf, lastLine}
+use Rattle.listing.specs.Listing.{listingOf}
 use Rattle.sheet.specs.Rows.{SheetRow}
 
 abbrev item : Item → ℕ → List ℤ → List ℕ → SheetRow
-item i start list line = record { given = lineOf i start list; paper = line }
+item i start list line = record { given = lineOf (itemOf i) start list; paper = line }
 
 abbrev command : (first second : ℕ) → Parameters → ℕ → Item
 command a b ps count = I.Command (record { command = (record { first = a; second = b; parameters = ps }); count = count; next = 0; kept = freshMemory })
 
+abbrev lists : List ℕ → List ℕ → SheetRow
+lists input lines = record { given = listingOf input; paper = lines }
+
 abbrev pub line-examples : List SheetRow
 line-examples =
-    -- T 0 65
-    item (I.Text (record { byte = 65; next = 1 })) 0 [] (84 ∷ 32 ∷ 48 ∷ 32 ∷ 54 ∷ 53 ∷ 10 ∷ [])
-    -- C 1 LF 0 100
-    ∷ item (command 76 70 (P.OnePoint (record { x = 0; y = 100 })) 0) 1 [] (67 ∷ 32 ∷ 49 ∷ 32 ∷ 76 ∷ 70 ∷ 32 ∷ 48 ∷ 32 ∷ 49 ∷ 48 ∷ 48 ∷ 10 ∷ [])
-    -- R 6 2 8
-    ∷ item (I.RefusedCommand (record { refusal = UnknownCommand; place = 8; next = 9; kept = freshMemory })) 6 [] (82 ∷ 32 ∷ 54 ∷ 32 ∷ 50 ∷ 32 ∷ 56 ∷ 10 ∷ [])
-    -- C 9 KA 0
-    ∷ item (command 75 65 (P.OneInteger (pos 0)) 0) 9 [] (67 ∷ 32 ∷ 57 ∷ 32 ∷ 75 ∷ 65 ∷ 32 ∷ 48 ∷ 10 ∷ [])
-    -- E 13
-    ∷ record { given = lastLine false 13; paper = (69 ∷ 32 ∷ 49 ∷ 51 ∷ 10 ∷ []) }
+    -- T 0 65, C 1 LF 0 100, R 6 2 8, C 9 KA 0, E 13
+    lists (65 ∷ 27 ∷ 76 ∷ 70 ∷ 121 ∷ 64 ∷ 27 ∷ 75 ∷ 90 ∷ 27 ∷ 75 ∷ 65 ∷ 48 ∷ [])
+    (84 ∷ 32 ∷ 48 ∷ 32 ∷ 54 ∷ 53 ∷ 10 ∷ 67 ∷ 32 ∷ 49 ∷ 32 ∷ 76 ∷ 70 ∷ 32 ∷ 48 ∷ 32 ∷ 49 ∷ 48 ∷ 48 ∷ 10 ∷ 82 ∷ 32 ∷ 54 ∷ 32 ∷ 50 ∷ 32 ∷ 56 ∷ 10 ∷ 67 ∷ 32 ∷ 57 ∷ 32 ∷ 75 ∷ 65 ∷ 32 ∷ 48 ∷ 10 ∷ 69 ∷ 32 ∷ 49 ∷ 51 ∷ 10 ∷ [])
+    -- C 0 LF 0 100, R 5 3 11, C 12 LF 4 100, E 16: the refused RS has a first corner of (128,0), and the y of the last point is that before it
+    ∷ lists (27 ∷ 76 ∷ 70 ∷ 121 ∷ 64 ∷ 27 ∷ 82 ∷ 83 ∷ 96 ∷ 33 ∷ 64 ∷ 10 ∷ 27 ∷ 76 ∷ 70 ∷ 65 ∷ [])
+    (67 ∷ 32 ∷ 48 ∷ 32 ∷ 76 ∷ 70 ∷ 32 ∷ 48 ∷ 32 ∷ 49 ∷ 48 ∷ 48 ∷ 10 ∷ 82 ∷ 32 ∷ 53 ∷ 32 ∷ 51 ∷ 32 ∷ 49 ∷ 49 ∷ 10 ∷ 67 ∷ 32 ∷ 49 ∷ 50 ∷ 32 ∷ 76 ∷ 70 ∷ 32 ∷ 52 ∷ 32 ∷ 49 ∷ 48 ∷ 48 ∷ 10 ∷ 69 ∷ 32 ∷ 49 ∷ 54 ∷ 10 ∷ [])
     -- M 4096
     ∷ record { given = lastLine true 4096; paper = (77 ∷ 32 ∷ 52 ∷ 48 ∷ 57 ∷ 54 ∷ 10 ∷ []) }
     -- a string: C 0 LT 2 72 73, of a longer list

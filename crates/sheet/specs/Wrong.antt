@@ -19,9 +19,10 @@ use Rattle.parameters.specs.Looking.{partAt, fixedAt, tailAt, parametersAt, aft
 use Rattle.commands.specs.Reading.{letterAt, secondAt, headAt, bodyAt, commandAt, told, afterEntries}
 use Rattle.writable.specs.Writable.{isKind, isTail, fits, isCommand}
 use Rattle.writing.specs.Writing.{spellEntry, spellEntries, spellValues, afterValues, spellTail, spellParameters, spellCommand}
-use Rattle.stream.specs.Items.{passedFrom, commandItem, itemAt, toldItem, afterItem}
+use Rattle.stream.specs.Items.{passedFrom, commandItem, itemAt, toldItem, itemOf, afterItem}
 use Rattle.lines.specs.Decimals.{digitsOf, decimal, field, fields}
 use Rattle.lines.specs.Lines.{listed, opening, textLine, letters, commandHead, parametersWords, commandLine, pair, refusedLine, lineOf, lastLine}
+use Rattle.listing.specs.Listing.{nextStart, nextKept, entriesOf, lineThen, linesFrom, linesOf, listingWith, listingOf}
 use Rattle.beam.specs.Validity.{isSize, isBits, onSurface, inViewport, isValid}
 use Rattle.beam.specs.Settings.{settled, makeFresh, bitsFrom, setBits, cornersOn, framed, setViewport, setBeam, stepped, makeStep}
 use Rattle.pixels.specs.Marks.{place, laid, moved, rowEnd}
@@ -57,8 +58,8 @@ unfolding every number valueOr placeOf endsAfter allAfter byteAt pairAt isItself
     integerFrom highsOf spellOf countIn byKind endsAt lastAt afterLoY afterUpper afterHiY pointFrom pointAt spellBytes coordinateOf byteWithin
     reportFrom reportAt stringAt afterString spellString isString begins kindOf entryAt runAt handed partAt fixedAt tailAt parametersAt
     afterLook letterAt secondAt headAt bodyAt commandAt told afterEntries isKind isTail fits isCommand spellEntry spellEntries spellValues
-    afterValues spellTail spellParameters spellCommand passedFrom commandItem itemAt toldItem afterItem digitsOf decimal field fields listed
-    opening textLine letters commandHead parametersWords commandLine pair refusedLine lineOf lastLine isSize isBits onSurface inViewport
+    afterValues spellTail spellParameters spellCommand passedFrom commandItem itemAt toldItem itemOf afterItem digitsOf decimal field fields listed
+    opening textLine letters commandHead parametersWords commandLine pair refusedLine lineOf lastLine nextStart nextKept entriesOf lineThen linesFrom linesOf listingWith listingOf isSize isBits onSurface inViewport
     isValid settled makeFresh bitsFrom setBits cornersOn framed setViewport setBeam stepped makeStep place laid moved rowEnd pixels
     characterMarks leftAfter rasterMarks runMarks runTotal isSurface pixelCharacters rasterNumbers rasterCharacters runNumbers writeRefusal
     rasterRefusal runRefusal written surfaceAfter drawRaster rasterSurface drawRuns runsSurface after returned ran threeBytes encoded isStoreEntry

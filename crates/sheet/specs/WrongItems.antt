@@ -1,10 +1,9 @@
--- Wrong answers of `stream` and `lines`, and of the stream's exported calls. Each row: a call, its input, and what it must not answer.
+-- Wrong answers of `stream`, `lines` and `listing`, and of the stream's exported calls. Each row: a call, its input, and what it must not answer.
 use Prim.Native.Nat.{ℕ}
 use mathlib.Core.Bool.{Bool, true, false}
 use mathlib.Core.List.{List, [], _∷_, _++_}
 use lib.ListN.{length, replicate}
 use lib.IntN.{ℤ, pos, negsuc}
-use Rattle.refusals.specs.declared.Refusal.the-variants.{UnknownCommand}
 use Rattle.refusals.specs.Answers.{Answer, number, valueOr}
 use Rattle.memory.specs.declared.Remembered.{Remembered}
 use Rattle.memory.specs.Memory.{freshMemory}
@@ -15,8 +14,9 @@ use Rattle.commands.specs.Reading.{ToldCommand}
 use Rattle.writing.specs.Writing.{spellCommand, writeCommand}
 use Rattle.stream.specs.declared.Item.{Item}
 use Rattle.stream.specs.declared.Item.the-variants as I
-use Rattle.stream.specs.Items.{Itemed, nothing, text, command, refusedCommand, refusedCall, itemAt, toldItem, afterItem}
+use Rattle.stream.specs.Items.{Itemed, nothing, text, command, refusedCommand, refusedCall, itemAt, toldItem, itemOf, afterItem}
 use Rattle.lines.specs.Lines.{lineOf, lastLine}
+use Rattle.listing.specs.Listing.{listingOf}
 use Rattle.parameters.specs.Numbers.{numbersOf}
 use Rattle.stream_calls.specs.Slots.{keptIn, twoOf, itemKept, itemNumber, itemFields, itemValues}
 use Rattle.stream_calls.specs.Given.{commandGiven, keptAfter}
@@ -76,9 +76,9 @@ ka v = I.Command (record { command = (record { first = 75; second = 65; paramete
 abbrev pub wrong-line : List Wrong
 wrong-line =
     -- C 0 KA -1: a plus for the minus
-    lining (lineOf (ka (negsuc 0)) 0 []) (0 ∷ 10 ∷ 67 ∷ 32 ∷ 48 ∷ 32 ∷ 75 ∷ 65 ∷ 32 ∷ 43 ∷ 49 ∷ 10 ∷ [])
+    lining (lineOf (itemOf (ka (negsuc 0))) 0 []) (0 ∷ 10 ∷ 67 ∷ 32 ∷ 48 ∷ 32 ∷ 75 ∷ 65 ∷ 32 ∷ 43 ∷ 49 ∷ 10 ∷ [])
     -- "R: start, refusal, place": not the place first
-    ∷ lining (lineOf (I.RefusedCommand (record { refusal = UnknownCommand; place = 8; next = 9; kept = freshMemory })) 6 []) (0 ∷ 8 ∷ 82 ∷ 32 ∷ 56 ∷ 32 ∷ 50 ∷ 32 ∷ 54 ∷ 10 ∷ 9 ∷ 9 ∷ [])
+    ∷ lining (lineOf (refusedCommand 2 8 9 freshMemory) 6 []) (0 ∷ 8 ∷ 82 ∷ 32 ∷ 56 ∷ 32 ∷ 50 ∷ 32 ∷ 54 ∷ 10 ∷ 9 ∷ 9 ∷ [])
     ∷ []
 
 abbrev pub wrong-last-line : List Wrong
@@ -87,6 +87,20 @@ wrong-last-line =
     lining (lastLine false 13) (0 ∷ 7 ∷ 69 ∷ 32 ∷ 52 ∷ 48 ∷ 57 ∷ 54 ∷ 10 ∷ 9 ∷ 9 ∷ 9 ∷ [])
     -- "or M 4096 if more input follows"
     ∷ lining (lastLine true 4096) (0 ∷ 7 ∷ 69 ∷ 32 ∷ 52 ∷ 48 ∷ 57 ∷ 54 ∷ 10 ∷ 9 ∷ 9 ∷ 9 ∷ [])
+    ∷ []
+
+-- LF with the point (0,100), an RS that is refused behind its first corner (128,0), and LF with its LoX alone
+abbrev refusedBetween : List ℕ
+refusedBetween = 27 ∷ 76 ∷ 70 ∷ 121 ∷ 64 ∷ 27 ∷ 82 ∷ 83 ∷ 96 ∷ 33 ∷ 64 ∷ 10 ∷ 27 ∷ 76 ∷ 70 ∷ 65 ∷ []
+
+abbrev pub wrong-listing : List Wrong
+wrong-listing =
+    -- "Keeping the remembered point from a refused command": C 12 LF 132 0
+    but (listingOf refusedBetween) (67 ∷ 32 ∷ 48 ∷ 32 ∷ 76 ∷ 70 ∷ 32 ∷ 48 ∷ 32 ∷ 49 ∷ 48 ∷ 48 ∷ 10 ∷ 82 ∷ 32 ∷ 53 ∷ 32 ∷ 51 ∷ 32 ∷ 49 ∷ 49 ∷ 10 ∷ 67 ∷ 32 ∷ 49 ∷ 50 ∷ 32 ∷ 76 ∷ 70 ∷ 32 ∷ 49 ∷ 51 ∷ 50 ∷ 32 ∷ 48 ∷ 10 ∷ 69 ∷ 32 ∷ 49 ∷ 54 ∷ 10 ∷ [])
+    -- nor is the point before it lost: C 12 LF 4 0
+    ∷ but (listingOf refusedBetween) (67 ∷ 32 ∷ 48 ∷ 32 ∷ 76 ∷ 70 ∷ 32 ∷ 48 ∷ 32 ∷ 49 ∷ 48 ∷ 48 ∷ 10 ∷ 82 ∷ 32 ∷ 53 ∷ 32 ∷ 51 ∷ 32 ∷ 49 ∷ 49 ∷ 10 ∷ 67 ∷ 32 ∷ 49 ∷ 50 ∷ 32 ∷ 76 ∷ 70 ∷ 32 ∷ 52 ∷ 32 ∷ 48 ∷ 10 ∷ 69 ∷ 32 ∷ 49 ∷ 54 ∷ 10 ∷ [])
+    -- no item is left out: not the last line alone
+    ∷ but (listingOf (65 ∷ 66 ∷ [])) (69 ∷ 32 ∷ 50 ∷ 10 ∷ [])
     ∷ []
 
 -- ---- the exported calls: the number, the slots, and what is lent
@@ -138,6 +152,7 @@ column-of-items =
     (wrong-read-item
     ∷ wrong-line
     ∷ wrong-last-line
+    ∷ wrong-listing
     ∷ wrong-ardh-next-item
     ∷ wrong-ardh-write-command
     ∷ [])

@@ -21,6 +21,12 @@ put-command-requires c κs = search needs
 enum-known-item-3 : tie.Need-enum-known-item-3
 enum-known-item-3 c = search needs
 
+number-requires : tie.Need-number-requires
+number-requires c κs = search needs
+
+cast-number : tie.Need-cast-number
+cast-number c = search needs
+
 put-refused-requires : tie.Need-put-refused-requires
 put-refused-requires c κs = search needs
 
@@ -61,6 +67,8 @@ put-line-spec =
     enum-known-item-2
     put-command-requires
     enum-known-item-3
+    number-requires
+    cast-number
     put-refused-requires
     enum-told-2
     returns

@@ -3,12 +3,6 @@ use borrow.Author.Needs.{needs}
 use Rattle.lines.proofs.put_refused.Statement.{statement}
 use Rattle.lines.proofs.put_refused.Tie as tie
 
-number-requires : tie.Need-number-requires
-number-requires c κs = search needs
-
-cast-number : tie.Need-cast-number
-cast-number c = search needs
-
 put-opening-requires : tie.Need-put-opening-requires
 put-opening-requires c κs = search needs
 
@@ -26,12 +20,4 @@ returns c = search refused-poured
 
 pub put-refused-spec : {M : Type 1} → statement M
 put-refused-spec =
-    tie.close
-    (tie.spec
-    number-requires
-    cast-number
-    put-opening-requires
-    put-pair-requires
-    put-requires
-    same-length
-    returns)
+    tie.close (tie.spec put-opening-requires put-pair-requires put-requires same-length returns)

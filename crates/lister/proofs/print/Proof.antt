@@ -12,11 +12,11 @@ slice-aggregate-write-all c = search (needs, length-take-le)
 write-all-requires : tie.Need-write-all-requires
 write-all-requires c κs = search needs
 
-enum-told : tie.Need-enum-told
-enum-told c = search needs
-
 returns : tie.Need-returns
 returns c = search needs
+
+enum-told : tie.Need-enum-told
+enum-told c = search needs
 
 returns-2 : tie.Need-returns-2
 returns-2 c = search needs
@@ -31,7 +31,7 @@ print-spec =
     enum-known-written
     slice-aggregate-write-all
     write-all-requires
-    enum-told
     returns
+    enum-told
     returns-2
     returns-3)

@@ -1,0 +1,4 @@
+pub mod Reading
+pub mod Listings
+pub mod Whole
+pub mod Lengths
