@@ -188,9 +188,14 @@ placed L volatile saved n =
     (pick (leb 1 (length (bodyOf (natAbs n) (entries L volatile)))) (placedIn L 1 volatile (natAbs n)) (placedIn L 2 saved (natAbs n)))
     (unplaced (findRefusal L volatile saved n))
 
--- the store that it names
-abbrev pub storeNamed : Placed → (volatile saved : List ℕ) → List ℕ
+-- what belongs to the store that it names
+abbrev pub storeNamed : {A : Type 0} → Placed → (volatile saved : A) → A
 storeNamed p volatile saved = pick (eqb (p .store) 1) volatile saved
+
+-- where a reference to the body points, by where those to the stores point: to its first byte in the store that is named. Refused, to the front of the
+-- saved store. A pointer is a block of memory, and a place in it.
+unfoldable pub bodyPointer : Placed → (volatile saved : ℕ × ℕ) → ℕ × ℕ
+bodyPointer p volatile saved = (storeNamed p volatile saved .0, p .offset + storeNamed p volatile saved .1)
 
 -- what the answer says
 unfoldable pub bodyPlaceOf : Place → Placed

@@ -4,7 +4,7 @@ ghost use mathlib.Core.Path.{_≡_};
 ghost use Prim.Native.Nat.{_+_, _<_, _≤_};
 ghost use lib.ListN.{length, getD, drop};
 ghost use Rattle.refusals.specs.Answers.{every};
-ghost use Rattle.macros.specs.Store.{threeBytes, atMost, isStoreEntry, wellFormed, lookedUp, findRefusal, findingOf, placed, bodyPlaceOf, hasBody, bodyByHeaders, lookedByHeaders};
+ghost use Rattle.macros.specs.Store.{threeBytes, atMost, isStoreEntry, wellFormed, lookedUp, findRefusal, findingOf, placed, bodyPointer, bodyPlaceOf, hasBody, bodyByHeaders, lookedByHeaders};
 ghost use Rattle.macros.specs.Fronts.{LengthIs, FrontIs, GapIs, SurveyIs, gapBehind};
 use refusals::Refusal;
 
@@ -245,6 +245,7 @@ pub fn locate<'a>(volatile: &'a [u8], saved: &'a [u8], number: i32) -> Place
 // The body as part of whichever store holds it; an empty part where there is none.
 pub fn look_up<'a>(volatile: &'a [u8], saved: &'a [u8], number: i32) -> &'a [u8]
     ensures { λ r. ⌜ now r ≡ lookedUp threeBytes (now (volatile .entry)) (now (saved .entry)) number ⌝ }
+    ensures { λ r. ⌜ r .ptr ≡ bodyPointer (placed threeBytes (now (volatile .entry)) (now (saved .entry)) number) (volatile .entry .ptr) (saved .entry .ptr) ⌝ }
 {
     match locate(volatile, saved, number) {
         Place::InVolatile(part) => {
