@@ -31,7 +31,7 @@ use Rattle.balance.specs.Balance.{after, returned, ran}
 use Rattle.macros.specs.Store.{isStoreEntry, threeBytes, encoded, wellFormed, keep, bodyOf, bodyInEither, lookRefusal, findRefusal, lookedUp, placed, hasBody, bodyByHeaders, lookedByHeaders}
 use Rattle.macros.specs.Store.{frontEntries}
 use Rattle.defining.specs.Defining.{mayDefine, beforeRoom, defineRefusal, storeAfter}
-use Rattle.pieces.specs.Pieces.{commandPiece, pieceOf, pieceAt}
+use Rattle.pieces.specs.Pieces.{commandPiece, itemPiece, pieceAt}
 use Rattle.expansion.specs.Expansion.{walked, entering, callStretch, started, expandRefusal, expandTold, expandOut}
 use Rattle.pixel_calls.specs.Fields.{beamIn, fieldsOf}
 use Rattle.parameters.specs.Numbers.{fourOf}
@@ -63,7 +63,7 @@ unfolding every number valueOr placeOf endsAfter allAfter byteAt pairAt isItself
     characterMarks leftAfter rasterMarks runMarks runTotal isSurface pixelCharacters rasterNumbers rasterCharacters runNumbers writeRefusal
     rasterRefusal runRefusal written surfaceAfter drawRaster rasterSurface drawRuns runsSurface after returned ran threeBytes encoded isStoreEntry
     frontEntries wellFormed keep bodyOf mayDefine beforeRoom defineRefusal storeAfter bodyInEither lookRefusal findRefusal lookedUp placed
-    hasBody bodyByHeaders lookedByHeaders commandPiece pieceOf pieceAt walked entering callStretch started expandRefusal expandTold expandOut
+    hasBody bodyByHeaders lookedByHeaders commandPiece itemPiece pieceAt walked entering callStretch started expandRefusal expandTold expandOut
     beamIn fieldsOf keptIn twoOf itemKept itemNumber kindSlot itemFields fourOf itemValues ofKind ofFound commandGiven keptAfter placeFields
     countFields
 none-as-wrong = refl

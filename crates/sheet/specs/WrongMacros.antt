@@ -6,9 +6,7 @@ use lib.IntN.{ℤ, pos}
 use Rattle.memory.specs.Memory.{freshMemory}
 use Rattle.macros.specs.Store.{Entry, threeBytes, encoded, sizeOf, below, entries, wellFormed, lookedUp, findRefusal, Placed, placed, lookedByHeaders}
 use Rattle.defining.specs.Defining.{defineRefusal, storeAfter}
-use Rattle.pieces.specs.declared.Piece.{Piece}
-use Rattle.pieces.specs.declared.Piece.the-variants.{End, Copied, Called, Refused}
-use Rattle.pieces.specs.Pieces.{pieceAt}
+use Rattle.pieces.specs.Pieces.{Pieced, end, copied, called, trouble, pieceAt}
 use Rattle.expansion.specs.Expansion.{ExpansionAnswer, expandTold, expandOut}
 use Rattle.macro_calls.specs.Slots.{placeFields, countFields}
 use Rattle.sheet.specs.Rows.{Wrong, but, joined, truth, signs}
@@ -132,12 +130,12 @@ wrong-look-by-headers =
 
 -- ---- pieces
 
--- 0 none is left; 1 copied: the next start, the remembered point; 2 called: the number, the next start, the remembered point; 3 refused
-abbrev pieceIs : Piece → List ℕ
-pieceIs End = (0 ∷ [])
-pieceIs (Copied n k) = (1 ∷ n ∷ k .point .x ∷ k .point .y ∷ [])
-pieceIs (Called v n k) = 2 ∷ (signs v ++ (n ∷ k .point .x ∷ k .point .y ∷ []))
-pieceIs Refused = (3 ∷ [])
+-- 0 none is left; 1 copied: the next start, the remembered point; 2 called: the number, the next start, the remembered point; 3 the trouble's number
+abbrev pieceIs : Pieced → List ℕ
+pieceIs end = (0 ∷ [])
+pieceIs (copied n k) = (1 ∷ n ∷ k .point .x ∷ k .point .y ∷ [])
+pieceIs (called v n k) = 2 ∷ (signs v ++ (n ∷ k .point .x ∷ k .point .y ∷ []))
+pieceIs (trouble e) = (3 ∷ e ∷ [])
 
 abbrev piece : List ℕ → ℕ → List ℕ → Wrong
 piece body start wrong = but (pieceIs (pieceAt freshMemory body start)) wrong
@@ -155,7 +153,7 @@ wrong-piece-at =
     -- a text byte takes one byte
     ∷ piece (65 ∷ []) 0 (1 ∷ 0 ∷ 0 ∷ 0 ∷ [])
     -- "A count is an integer 0..256": an array of 256 is no trouble
-    ∷ piece ((27 ∷ 82 ∷ 68 ∷ 80 ∷ 48 ∷ []) ++ replicate 256 48) 0 (3 ∷ [])
+    ∷ piece ((27 ∷ 82 ∷ 68 ∷ 80 ∷ 48 ∷ []) ++ replicate 256 48) 0 (3 ∷ 17 ∷ [])
     ∷ []
 
 -- ---- expansion: the refusal, bytes written, macros entered, and the output
