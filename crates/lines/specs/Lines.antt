@@ -7,9 +7,7 @@ use lib.ListN.{take}
 use lib.IntN.{ℤ, pos}
 use Rattle.refusals.specs.Refusals.{numberOf}
 use Rattle.parameters.specs.declared.Parameters.{Parameters}
-use Rattle.parameters.specs.declared.Tail.{Tail}
-use Rattle.parameters.specs.declared.Tail.the-variants.{NoList, ListOf}
-use Rattle.parameters.specs.Shapes.{valuesOf, tailOf}
+use Rattle.parameters.specs.Shapes.{Tailed, noList, listOf, valuesOf, tailOf}
 use Rattle.parameters.specs.Numbers.{numbersOf}
 use Rattle.commands.specs.declared.Command.{Command}
 use Rattle.stream.specs.declared.Item.{Item}
@@ -17,9 +15,9 @@ use Rattle.stream.specs.declared.Item.the-variants.{Nothing, Text}
 use Rattle.lines.specs.Decimals.{field, fields}
 
 -- the count and the entries, where the parameters have any
-unfoldable pub listed : Tail → ℕ → List ℤ → List ℕ
-listed NoList k list = []
-listed (ListOf e) k list = field (pos k) ++ fields (take k list)
+unfoldable pub listed : Tailed → ℕ → List ℤ → List ℕ
+listed noList k list = []
+listed (listOf e) k list = field (pos k) ++ fields (take k list)
 
 abbrev newline : List ℕ
 newline = 10 ∷ []

@@ -14,9 +14,7 @@ use Rattle.parameters.specs.declared.Parameters.{Parameters}
 use Rattle.parameters.specs.declared.Parameters.the-variants.{OneInteger, TwoIntegers, ThreeIntegers, OnePoint, TwoPoints, AReal, TwoCharacters, AString, AnArray, IntegerThenString, IntegerThenArray}
 use Rattle.parameters.specs.declared.ParametersRead.{ParametersRead}
 use Rattle.parameters.specs.declared.ParametersRead.the-variants.{Whole}
-use Rattle.parameters.specs.declared.Tail.{Tail}
-use Rattle.parameters.specs.declared.Tail.the-variants.{NoList, ListOf}
-use Rattle.parameters.specs.Shapes.{Value, number, scaled, place, valuesOf, tailOf}
+use Rattle.parameters.specs.Shapes.{Tailed, noList, listOf, Value, number, scaled, place, valuesOf, tailOf}
 use Rattle.parameters.specs.declared.Numbers.{Numbers}
 use Rattle.parameters.specs.Numbers.{Holds, numbersOf}
 use Rattle.parameters.specs.Looking.{Parsed, lookOf}
@@ -32,10 +30,10 @@ codes : List Value → ℕ
 codes [] = 0
 codes (v ∷ vs) = valueCode v + 5 * codes vs
 
-tailCode : Tail → ℕ
-tailCode NoList = 0
-tailCode (ListOf AnInteger) = 1
-tailCode (ListOf ACharacter) = 2
+tailCode : Tailed → ℕ
+tailCode noList = 0
+tailCode (listOf AnInteger) = 1
+tailCode (listOf ACharacter) = 2
 
 -- what a value holds
 integerIn : Value → ℤ
@@ -70,7 +68,7 @@ chosen n vs =
     (pick (eqb n 5) (IntegerThenString (integerIn (at vs 0)))
     (IntegerThenArray (integerIn (at vs 0))))))))))))
 
-pub parametersFor : List Value → Tail → Parameters
+pub parametersFor : List Value → Tailed → Parameters
 parametersFor vs t = chosen (codes vs * 3 + tailCode t) vs
 
 pub parameters-for : (ps : Parameters) → parametersFor (valuesOf ps) (tailOf ps) ≡ ps

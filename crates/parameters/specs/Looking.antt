@@ -14,10 +14,8 @@ use Rattle.parameters.specs.declared.ParametersRead.{ParametersRead}
 use Rattle.parameters.specs.declared.ParametersRead.the-variants.{Whole}
 use Rattle.parameters.specs.declared.TwoEntriesRead.{TwoEntriesRead}
 use Rattle.parameters.specs.declared.TwoEntriesRead.the-variants.{Both}
-use Rattle.parameters.specs.declared.Tail.{Tail}
-use Rattle.parameters.specs.declared.Tail.the-variants.{NoList, ListOf}
 use Rattle.parameters.specs.Entries.{entryAt, entryValues, CountedRun, runAt, handed}
-use Rattle.parameters.specs.Shapes.{Part, single, real, point, Shape, Value, number, scaled, place, valuesOf, tailOf}
+use Rattle.parameters.specs.Shapes.{Tailed, noList, listOf, Part, single, real, point, Shape, Value, number, scaled, place, valuesOf, tailOf}
 
 pub record TwoEntries : Type 0 where
   pub one : ℤ
@@ -56,20 +54,20 @@ fixedAt kept (p ∷ ps) s at =
     (λ f. then (fixedAt (f .kept) ps s (f .next)) (λ g. done (record { values = f .values ++ g .values; next = g .next; kept = g .kept })))
 
 -- the string or the array behind them
-unfoldable pub tailAt : Remembered → Tail → List ℕ → ℕ → Answer CountedRun
-tailAt kept NoList s at = done (record { start = 0; count = 0; next = at })
-tailAt kept (ListOf e) s at = runAt e kept s at
+unfoldable pub tailAt : Remembered → Tailed → List ℕ → ℕ → Answer CountedRun
+tailAt kept noList s at = done (record { start = 0; count = 0; next = at })
+tailAt kept (listOf e) s at = runAt e kept s at
 
 -- all parameters: the values and the kind of list, the run of its entries, where reading goes on, and what is then remembered
 pub record Parsed : Type 0 where
   pub values : List Value
-  pub tail : Tail
+  pub tail : Tailed
   pub start : ℕ
   pub count : ℕ
   pub next : ℕ
   pub kept : Remembered
 
-abbrev with : Fixed → Tail → CountedRun → Answer Parsed
+abbrev with : Fixed → Tailed → CountedRun → Answer Parsed
 with f t h = done (record { values = f .values; tail = t; start = h .start; count = h .count; next = h .next; kept = f .kept })
 
 unfoldable pub parametersAt : Remembered → Shape → List ℕ → ℕ → Answer Parsed
@@ -84,9 +82,9 @@ lookOf (ParametersRead.Refused e p) = refused (numberOf e) p
 
 -- ---- the entries, and the lent list behind them
 
-abbrev pub entryIn : Tail → Entry
-entryIn NoList = AnInteger
-entryIn (ListOf e) = e
+abbrev pub entryIn : Tailed → Entry
+entryIn noList = AnInteger
+entryIn (listOf e) = e
 
 abbrev pub parsedEntries : List ℕ → Parsed → List ℤ
 parsedEntries s p = entryValues (entryIn (p .tail)) (p .kept) (p .count) s (p .start)

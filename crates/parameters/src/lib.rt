@@ -6,9 +6,10 @@ ghost use Prim.Native.Nat.{_≤_};
 ghost use lib.ListN.{length, take};
 ghost use lib.Seq.{sets};
 ghost use lib.IntN.{pos};
+ghost use Rattle.table.specs.Table.{oneInteger, twoIntegers, threeIntegers, onePoint, twoPoints, aReal, twoCharacters, kindMeant};
 ghost use Rattle.numbers.specs.Integers.{integerOf};
 ghost use Rattle.parameters.specs.Entries.{entryAt, entryValues, entriesEndOf, entriesEnd, runOf, runAt, handed, afterRun};
-ghost use Rattle.parameters.specs.Shapes.{shapeOf, listShape, integerThenListShape, onlyList, integerThenList, valuesOf, tailOf, lastPoint};
+ghost use Rattle.parameters.specs.Shapes.{shapeOf, listShape, integerThenListShape, onlyList, integerThenList, valuesOf, tailOf, lastPoint, tailMeant, pointMeant};
 ghost use Rattle.parameters.specs.Numbers.{Holds};
 ghost use Rattle.parameters.specs.Looking.{twoEntriesOf, twoEntriesAt, lookOf, parametersAt, afterLook};
 use memory::Point;
@@ -237,7 +238,7 @@ fn two_entries(kept: Remembered, entry: Entry, s: &[u8], at: usize) -> TwoEntrie
 }
 
 fn look_one_integer(kept: Remembered, s: &[u8], at: usize) -> ParametersRead
-    ensures { λ r. ⌜ lookOf r ≡ parametersAt kept (shapeOf Kind.OneInteger) (now (s .entry)) at ⌝ }
+    ensures { λ r. ⌜ lookOf r ≡ parametersAt kept (shapeOf oneInteger) (now (s .entry)) at ⌝ }
 {
     match numbers::read_integer(kept, s, at) {
         IntegerRead::Integer(a) => without_list(Parameters::OneInteger(a.value), a.next, kept),
@@ -246,7 +247,7 @@ fn look_one_integer(kept: Remembered, s: &[u8], at: usize) -> ParametersRead
 }
 
 fn look_two_integers(kept: Remembered, s: &[u8], at: usize) -> ParametersRead
-    ensures { λ r. ⌜ lookOf r ≡ parametersAt kept (shapeOf Kind.TwoIntegers) (now (s .entry)) at ⌝ }
+    ensures { λ r. ⌜ lookOf r ≡ parametersAt kept (shapeOf twoIntegers) (now (s .entry)) at ⌝ }
 {
     match two_entries(kept, Entry::AnInteger, s, at) {
         TwoEntriesRead::Both(a, b, n) => without_list(Parameters::TwoIntegers(a, b), n, kept),
@@ -255,7 +256,7 @@ fn look_two_integers(kept: Remembered, s: &[u8], at: usize) -> ParametersRead
 }
 
 fn look_real(kept: Remembered, s: &[u8], at: usize) -> ParametersRead
-    ensures { λ r. ⌜ lookOf r ≡ parametersAt kept (shapeOf Kind.AReal) (now (s .entry)) at ⌝ }
+    ensures { λ r. ⌜ lookOf r ≡ parametersAt kept (shapeOf aReal) (now (s .entry)) at ⌝ }
 {
     match two_entries(kept, Entry::AnInteger, s, at) {
         TwoEntriesRead::Both(a, b, n) => {
@@ -270,7 +271,7 @@ fn look_real(kept: Remembered, s: &[u8], at: usize) -> ParametersRead
 }
 
 fn look_two_characters(kept: Remembered, s: &[u8], at: usize) -> ParametersRead
-    ensures { λ r. ⌜ lookOf r ≡ parametersAt kept (shapeOf Kind.TwoCharacters) (now (s .entry)) at ⌝ }
+    ensures { λ r. ⌜ lookOf r ≡ parametersAt kept (shapeOf twoCharacters) (now (s .entry)) at ⌝ }
 {
     match two_entries(kept, Entry::ACharacter, s, at) {
         TwoEntriesRead::Both(a, b, n) => without_list(Parameters::TwoCharacters(a, b), n, kept),
@@ -279,7 +280,7 @@ fn look_two_characters(kept: Remembered, s: &[u8], at: usize) -> ParametersRead
 }
 
 fn look_three_integers(kept: Remembered, s: &[u8], at: usize) -> ParametersRead
-    ensures { λ r. ⌜ lookOf r ≡ parametersAt kept (shapeOf Kind.ThreeIntegers) (now (s .entry)) at ⌝ }
+    ensures { λ r. ⌜ lookOf r ≡ parametersAt kept (shapeOf threeIntegers) (now (s .entry)) at ⌝ }
 {
     match two_entries(kept, Entry::AnInteger, s, at) {
         TwoEntriesRead::Both(a, b, n) => match numbers::read_integer(kept, s, n) {
@@ -295,7 +296,7 @@ fn look_three_integers(kept: Remembered, s: &[u8], at: usize) -> ParametersRead
 }
 
 fn look_one_point(kept: Remembered, s: &[u8], at: usize) -> ParametersRead
-    ensures { λ r. ⌜ lookOf r ≡ parametersAt kept (shapeOf Kind.OnePoint) (now (s .entry)) at ⌝ }
+    ensures { λ r. ⌜ lookOf r ≡ parametersAt kept (shapeOf onePoint) (now (s .entry)) at ⌝ }
 {
     match points::read_point(kept, s, at) {
         PointRead::At(taken) => {
@@ -312,7 +313,7 @@ fn look_one_point(kept: Remembered, s: &[u8], at: usize) -> ParametersRead
 
 // The second point follows from the first.
 fn look_two_points(kept: Remembered, s: &[u8], at: usize) -> ParametersRead
-    ensures { λ r. ⌜ lookOf r ≡ parametersAt kept (shapeOf Kind.TwoPoints) (now (s .entry)) at ⌝ }
+    ensures { λ r. ⌜ lookOf r ≡ parametersAt kept (shapeOf twoPoints) (now (s .entry)) at ⌝ }
 {
     match points::read_point(kept, s, at) {
         PointRead::At(first) => {
@@ -396,7 +397,7 @@ pub fn look_at(
     at: usize,
     list: &mut [i32],
 ) -> ParametersRead
-    ensures { λ r. ⌜ (lookOf r ≡ parametersAt kept (shapeOf kind) (now (s .entry)) at) × (now (list .exit) ≡ afterLook (now (s .entry)) (parametersAt kept (shapeOf kind) (now (s .entry)) at) (now (list .entry))) ⌝ }
+    ensures { λ r. ⌜ (lookOf r ≡ parametersAt kept (shapeOf (kindMeant kind)) (now (s .entry)) at) × (now (list .exit) ≡ afterLook (now (s .entry)) (parametersAt kept (shapeOf (kindMeant kind)) (now (s .entry)) at) (now (list .entry))) ⌝ }
 {
     match kind {
         Kind::OneInteger => look_one_integer(kept, s, at),
@@ -417,7 +418,7 @@ pub fn look_at(
 
 // Whether entries of a list go with the parameters.
 pub fn tail_of(parameters: Parameters) -> Tail
-    ensures { λ r. ⌜ r ≡ tailOf parameters ⌝ }
+    ensures { λ r. ⌜ tailMeant r ≡ tailOf parameters ⌝ }
 {
     match parameters {
         Parameters::OneInteger(_) => Tail::NoList,
@@ -436,7 +437,7 @@ pub fn tail_of(parameters: Parameters) -> Tail
 
 // The point that is remembered behind the parameters.
 pub fn last_point(parameters: Parameters) -> LastPoint
-    ensures { λ r. ⌜ r ≡ lastPoint (valuesOf parameters) ⌝ }
+    ensures { λ r. ⌜ pointMeant r ≡ lastPoint (valuesOf parameters) ⌝ }
 {
     match parameters {
         Parameters::OnePoint(p) => LastPoint::Last(p),

@@ -36,7 +36,7 @@ use Rattle.expansion.specs.Expansion.{walked, entering, callStretch, started, e
 use Rattle.pixel_calls.specs.Fields.{beamIn, fieldsOf}
 use Rattle.parameters.specs.Numbers.{fourOf}
 use Rattle.stream_calls.specs.Slots.{keptIn, twoOf, itemKept, itemNumber, kindSlot, itemFields, itemValues}
-use Rattle.stream_calls.specs.Given.{ofKind, ofFound, commandGiven, keptAfter}
+use Rattle.stream_calls.specs.Given.{ofKind, ofTabled, commandGiven, keptAfter}
 use Rattle.macro_calls.specs.Slots.{placeFields, countFields}
 use Rattle.sheet.specs.Rows.{Wrong, differs, joined}
 use Rattle.sheet.specs.WrongBytes.{column-of-bytes}
@@ -64,6 +64,6 @@ unfolding every number valueOr placeOf endsAfter allAfter byteAt pairAt isItself
     rasterRefusal runRefusal written surfaceAfter drawRaster rasterSurface drawRuns runsSurface after returned ran threeBytes encoded isStoreEntry
     frontEntries wellFormed keep bodyOf mayDefine beforeRoom defineRefusal storeAfter bodyInEither lookRefusal findRefusal lookedUp placed
     hasBody bodyByHeaders lookedByHeaders commandPiece itemPiece pieceAt walked entering callStretch started expandRefusal expandTold expandOut
-    beamIn fieldsOf keptIn twoOf itemKept itemNumber kindSlot itemFields fourOf itemValues ofKind ofFound commandGiven keptAfter placeFields
+    beamIn fieldsOf keptIn twoOf itemKept itemNumber kindSlot itemFields fourOf itemValues ofKind ofTabled commandGiven keptAfter placeFields
     countFields
 none-as-wrong = refl
