@@ -4,7 +4,7 @@ use mathlib.Core.List.{List, [], _∷_, _++_, map}
 use lib.ListN.{length, replicate}
 use lib.IntN.{ℤ, pos}
 use Rattle.memory.specs.Memory.{freshMemory}
-use Rattle.macros.specs.Store.{Entry, threeBytes, encoded, sizeOf, below, entries, wellFormed, lookedUp, findRefusal, Placed, placed, lookedByHeaders}
+use Rattle.macros.specs.Store.{Entry, threeBytes, encoded, sizeOf, below, entries, wellFormed, lookedUp, findRefusal, Placed, placed, bodyPointer, lookedByHeaders}
 use Rattle.defining.specs.Defining.{defineRefusal, storeAfter}
 use Rattle.pieces.specs.Pieces.{Pieced, end, copied, called, trouble, pieceAt}
 use Rattle.expansion.specs.Expansion.{ExpansionAnswer, expandTold, expandOut}
@@ -73,6 +73,12 @@ wrong-define =
     ∷ but (defineRefusal threeBytes (replicate 259 0) (pos 5) (replicate 256 (pos 1)) ∷ []) (8 ∷ [])
     ∷ []
 
+-- where the part points, the volatile store being at the front of block 1 and the saved one at that of block 2: the block, and the place in it
+abbrev pointed : (volatile saved : List ℕ) → ℕ → List ℕ → Wrong
+pointed v s n wrong =
+    let p : ℕ × ℕ = bodyPointer (placed threeBytes v s (pos n)) (1, 0) (2, 0) in
+    but (p .0 ∷ p .1 ∷ []) wrong
+
 abbrev pub wrong-look-up : List Wrong
 wrong-look-up =
     -- "the body as part of the volatile store if it is there"
@@ -81,6 +87,12 @@ wrong-look-up =
     ∷ but (lookedUp threeBytes five [] (pos 4)) (72 ∷ 105 ∷ [])
     -- "a malformed store .. gives an empty part": the saved one too
     ∷ but (lookedUp threeBytes five (1 ∷ []) (pos 5)) (72 ∷ 105 ∷ [])
+    -- "as part of the volatile store if it is there", where both hold equal bodies too
+    ∷ pointed five five 5 (2 ∷ 3 ∷ [])
+    -- "otherwise as part of the saved store"
+    ∷ pointed [] five 5 (1 ∷ 3 ∷ [])
+    -- of the body, and not of its entry
+    ∷ pointed five five 5 (1 ∷ 0 ∷ [])
     ∷ []
 
 -- the refusal, the store, where the body begins, its length
