@@ -28,7 +28,7 @@ use Rattle.pixels.specs.Marks.{place, laid, moved, rowEnd}
 use Rattle.pixels.specs.Writes.{pixels, characterMarks, leftAfter, rasterMarks, runMarks, runTotal, written, surfaceAfter, drawRaster, rasterSurface, drawRuns, runsSurface}
 use Rattle.pixel_refusals.specs.Tests.{isSurface, pixelCharacters, rasterNumbers, rasterCharacters, runNumbers, writeRefusal, rasterRefusal, runRefusal}
 use Rattle.balance.specs.Balance.{after, returned, ran}
-use Rattle.macros.specs.Store.{isStoreEntry, threeBytes, encoded, wellFormed, keep, bodyOf, bodyInEither, lookRefusal, findRefusal, lookedUp, placed, bodyPointer, hasBody, bodyByHeaders, lookedByHeaders}
+use Rattle.macros.specs.Store.{isStoreEntry, threeBytes, encoded, wellFormed, keep, bodyOf, bodyInEither, lookRefusal, findRefusal, lookedUp, placed, bodyPointer, hasBody, partByHeaders, placedByHeaders, lookedByHeaders}
 use Rattle.macros.specs.Store.{frontEntries}
 use Rattle.defining.specs.Defining.{mayDefine, beforeRoom, defineRefusal, storeAfter}
 use Rattle.pieces.specs.Pieces.{commandPiece, itemPiece, pieceAt}
@@ -63,7 +63,7 @@ unfolding every number valueOr placeOf endsAfter allAfter byteAt pairAt isItself
     characterMarks leftAfter rasterMarks runMarks runTotal isSurface pixelCharacters rasterNumbers rasterCharacters runNumbers writeRefusal
     rasterRefusal runRefusal written surfaceAfter drawRaster rasterSurface drawRuns runsSurface after returned ran threeBytes encoded isStoreEntry
     frontEntries wellFormed keep bodyOf mayDefine beforeRoom defineRefusal storeAfter bodyInEither lookRefusal findRefusal lookedUp placed bodyPointer
-    hasBody bodyByHeaders lookedByHeaders commandPiece itemPiece pieceAt walked entering callStretch started expandRefusal expandTold expandOut
+    hasBody partByHeaders placedByHeaders lookedByHeaders commandPiece itemPiece pieceAt walked entering callStretch started expandRefusal expandTold expandOut
     beamIn fieldsOf keptIn twoOf itemKept itemNumber kindSlot itemFields fourOf itemValues ofKind ofTabled commandGiven keptAfter placeFields
     countFields
 none-as-wrong = refl

@@ -4,7 +4,7 @@ use mathlib.Core.List.{List, [], _∷_, _++_, map}
 use lib.ListN.{length, replicate}
 use lib.IntN.{ℤ, pos}
 use Rattle.memory.specs.Memory.{freshMemory}
-use Rattle.macros.specs.Store.{Entry, threeBytes, encoded, sizeOf, below, entries, wellFormed, lookedUp, findRefusal, Placed, placed, bodyPointer, lookedByHeaders}
+use Rattle.macros.specs.Store.{Entry, threeBytes, encoded, sizeOf, below, entries, wellFormed, lookedUp, findRefusal, Placed, placed, bodyPointer, placedByHeaders, lookedByHeaders}
 use Rattle.defining.specs.Defining.{defineRefusal, storeAfter}
 use Rattle.pieces.specs.Pieces.{Pieced, end, copied, called, trouble, pieceAt}
 use Rattle.expansion.specs.Expansion.{ExpansionAnswer, expandTold, expandOut}
@@ -74,9 +74,9 @@ wrong-define =
     ∷ []
 
 -- where the part points, the volatile store being at the front of block 1 and the saved one at that of block 2: the block, and the place in it
-abbrev pointed : (volatile saved : List ℕ) → ℕ → List ℕ → Wrong
-pointed v s n wrong =
-    let p : ℕ × ℕ = bodyPointer (placed threeBytes v s (pos n)) (1, 0) (2, 0) in
+abbrev pointed : Placed → List ℕ → Wrong
+pointed place wrong =
+    let p : ℕ × ℕ = bodyPointer place (1, 0) (2, 0) in
     but (p .0 ∷ p .1 ∷ []) wrong
 
 abbrev pub wrong-look-up : List Wrong
@@ -88,11 +88,11 @@ wrong-look-up =
     -- "a malformed store .. gives an empty part": the saved one too
     ∷ but (lookedUp threeBytes five (1 ∷ []) (pos 5)) (72 ∷ 105 ∷ [])
     -- "as part of the volatile store if it is there", where both hold equal bodies too
-    ∷ pointed five five 5 (2 ∷ 3 ∷ [])
+    ∷ pointed (placed threeBytes five five (pos 5)) (2 ∷ 3 ∷ [])
     -- "otherwise as part of the saved store"
-    ∷ pointed [] five 5 (1 ∷ 3 ∷ [])
+    ∷ pointed (placed threeBytes [] five (pos 5)) (1 ∷ 3 ∷ [])
     -- of the body, and not of its entry
-    ∷ pointed five five 5 (1 ∷ 0 ∷ [])
+    ∷ pointed (placed threeBytes five five (pos 5)) (1 ∷ 0 ∷ [])
     ∷ []
 
 -- the refusal, the store, where the body begins, its length
@@ -136,6 +136,7 @@ wrong-look-by-headers =
     ∷ but (lookedByHeaders threeBytes ((0 ∷ 8 ∷ 1 ∷ 33 ∷ []) ++ five) [] (pos 5)) []
     -- the volatile store first
     ∷ but (lookedByHeaders threeBytes five other (pos 5)) (33 ∷ [])
+    ∷ pointed (placedByHeaders threeBytes five five (pos 5)) (2 ∷ 3 ∷ [])
     -- "9 bits of body length": a body of 256 bytes is not empty
     ∷ but (lookedByHeaders threeBytes longest [] (pos 5)) []
     ∷ []
