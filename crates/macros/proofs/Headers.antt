@@ -22,7 +22,7 @@ use Rattle.ranges.specs.Ranges.{within}
 use Rattle.macros.specs.declared.Part.{Part}
 use Rattle.macros.specs.declared.Front.{Front}
 use Rattle.macros.specs.declared.Front.the-variants.{Here, NoEntry}
-use Rattle.macros.specs.Store.{Entry, Layout, sizeOf, areZeros, bodyIn, isStoreEntry, frontEntries, entries, wellFormed, below, isMacroNumber, bodyOf, orElse, bodyInEither, lookRefusal, findRefusal, lookedUp, Placed, placedIn, placed, bytesOf, bodyPointer, placedAt, hasBody, nowhere, partByHeaders, partIn, placedByHeaders, lookedByHeaders}
+use Rattle.macros.specs.Store.{Entry, Layout, sizeOf, areZeros, bodyIn, isStoreEntry, frontEntries, entries, wellFormed, below, isMacroNumber, bodyOf, orElse, bodyInEither, lookRefusal, findRefusal, lookedUp, Placed, placedIn, placed, bytesPlaced, bodyPointer, placedAt, hasBody, nowhere, partByHeaders, partIn, placedByHeaders, lookedByHeaders}
 use Rattle.macros.specs.Fronts.{EntryIs, FrontIs, HandsPart}
 use Rattle.macros.proofs.Layouts.{Lawful}
 use Rattle.macros.proofs.Reading.{stands, body-long, entryIn, behind, size-cons, size-nil, keep-yes, keep-no, and-no}
@@ -181,9 +181,9 @@ module _ (L : Layout) (v s : List ℕ) (n : ℤ) where
 
   -- what is looked up, and where it is pointed to, by where it stands
   module _ {p : Placed} (e : placedByHeaders L v s n ≡ p) where
-    bytes-there : bytesOf p v s ≡ lookedByHeaders L v s n
+    bytes-there : bytesPlaced p v s ≡ lookedByHeaders L v s n
     unfolding lookedByHeaders
-    bytes-there = ap (λ (x : Placed). bytesOf x v s) (sym e)
+    bytes-there = ap (λ (x : Placed). bytesPlaced x v s) (sym e)
 
     pointer-there : (pv ps : ℕ × ℕ) → bodyPointer p pv ps ≡ bodyPointer (placedByHeaders L v s n) pv ps
     pointer-there pv ps = ap (λ (x : Placed). bodyPointer x pv ps) (sym e)

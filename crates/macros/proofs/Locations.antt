@@ -12,7 +12,7 @@ use lib.Seq.{drop-drop}
 use lib.IntN.{ℤ, natAbs}
 use Rattle.refusals.proofs.Cases.{by-pick}
 use Rattle.refusals.proofs.Numbers.{met}
-use Rattle.macros.specs.Store.{Entry, Layout, sizeOf, bodyIn, isStoreEntry, frontEntries, entries, wellFormed, keep, below, isMacroNumber, bodyOf, orElse, bodyInEither, lookRefusal, findRefusal, lookedUp, Placed, placed, storeNamed, bytesOf, entrySize}
+use Rattle.macros.specs.Store.{Entry, Layout, sizeOf, bodyIn, isStoreEntry, frontEntries, entries, wellFormed, keep, below, isMacroNumber, bodyOf, orElse, bodyInEither, lookRefusal, findRefusal, lookedUp, Placed, placed, storeNamed, bytesPlaced, entrySize}
 use Rattle.macros.proofs.Layouts.{Lawful}
 use Rattle.macros.proofs.Reading.{stands, body-long, entryIn, behind, size-cons, size-nil, keep-yes, keep-no, keep-nil}
 
@@ -175,12 +175,12 @@ module _ (L : Layout) (v s : List ℕ) (n : ℤ) where
 
   module _ (lawful : Lawful L) where
     -- the part of the store that is named
-    pub located-part : bytesOf (placed L v s n) v s ≡ lookedUp L v s n
+    pub located-part : bytesPlaced (placed L v s n) v s ≡ lookedUp L v s n
     unfolding placed
     located-part =
-        by-pick (λ (x : Placed). bytesOf x v s ≡ lookedUp L v s n) (eqb (findRefusal L v s n) 0) _ _
+        by-pick (λ (x : Placed). bytesPlaced x v s ≡ lookedUp L v s n) (eqb (findRefusal L v s n) 0) _ _
         (λ t.
-        by-pick (λ (x : Placed). bytesOf x v s ≡ lookedUp L v s n) (leb 1 (length (bodyOf (natAbs n) (entries L v)))) _ _
+        by-pick (λ (x : Placed). bytesPlaced x v s ≡ lookedUp L v s n) (leb 1 (length (bodyOf (natAbs n) (entries L v)))) _ _
         (λ u. stand L lawful (natAbs n) v .there ∙ sym (looked-some t ∙ either-first (bodyOf (natAbs n) (entries L v)) _ u))
         (λ u. stand L lawful (natAbs n) s .there ∙ sym (looked-some t ∙ either-second (bodyOf (natAbs n) (entries L v)) _ u)))
         (λ t. sym (looked-none t))

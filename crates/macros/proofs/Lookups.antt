@@ -26,7 +26,7 @@ use Rattle.macros.specs.declared.Part.{Part}
 use Rattle.macros.specs.declared.Place.{Place}
 use Rattle.macros.specs.declared.Place.the-variants as Place
 use Rattle.macros.specs.declared.Finding.the-variants as Finding
-use Rattle.macros.specs.Store.{Layout, sizeOf, below, entries, wellFormed, isMacroNumber, bodyOf, bodyInEither, lookRefusal, findRefusal, lookedUp, findingOf, Placed, placed, storeNamed, bytesOf, bodyPointer, bodyPlaceOf, entrySize}
+use Rattle.macros.specs.Store.{Layout, sizeOf, below, entries, wellFormed, isMacroNumber, bodyOf, bodyInEither, lookRefusal, findRefusal, lookedUp, findingOf, Placed, placed, storeNamed, bytesPlaced, bodyPointer, bodyPlaceOf, entrySize}
 use Rattle.macros.specs.Fronts.{GapIs, FormedIs, SurveyIs}
 use Rattle.macros.proofs.Layouts.{Lawful, three-size, three-lawful}
 use Rattle.macros.proofs.Reading.{room-none, room-some}
@@ -159,8 +159,8 @@ module _ (L : Layout) (v s : List ℕ) (n : ℤ) (f : SFits w32 n) (r : Place) (
   number-said : {q : Place} → r ≡ q → bodyPlaceOf q .number ≡ findRefusal L v s n
   number-said e = ap (λ (x : Placed). x .number) (sym (says e)) ∙ placed-number L v s n
 
-  part-said : Lawful L → {q : Place} → r ≡ q → bytesOf (bodyPlaceOf q) v s ≡ lookedUp L v s n
-  part-said lawful e = subst (λ (x : Placed). bytesOf x v s ≡ lookedUp L v s n) (says e) (located-part L v s n lawful)
+  part-said : Lawful L → {q : Place} → r ≡ q → bytesPlaced (bodyPlaceOf q) v s ≡ lookedUp L v s n
+  part-said lawful e = subst (λ (x : Placed). bytesPlaced x v s ≡ lookedUp L v s n) (says e) (located-part L v s n lawful)
 
   inside-said : Lawful L → {q : Place} → r ≡ q → bodyPlaceOf q .offset + bodyPlaceOf q .long ≤ length (storeNamed (bodyPlaceOf q) v s)
   inside-said lawful e = subst (λ (x : Placed). x .offset + x .long ≤ length (storeNamed x v s)) (says e) (located-inside L v s n lawful)

@@ -194,8 +194,8 @@ abbrev pub storeNamed : {A : Type 0} → Placed → (volatile saved : A) → A
 storeNamed p volatile saved = pick (eqb (p .store) 1) volatile saved
 
 -- the bytes that stand there
-abbrev pub bytesOf : Placed → (volatile saved : List ℕ) → List ℕ
-bytesOf p volatile saved = take (p .long) (drop (p .offset) (storeNamed p volatile saved))
+abbrev pub bytesPlaced : Placed → (volatile saved : List ℕ) → List ℕ
+bytesPlaced p volatile saved = take (p .long) (drop (p .offset) (storeNamed p volatile saved))
 
 -- where a reference to the body points, by where those to the stores point: to its first byte in the store that is named. Refused, to the front of the
 -- saved store. A pointer is a block of memory, and a place in it.
@@ -240,4 +240,4 @@ placedByHeaders L volatile saved n =
     (placedAt 2 nowhere)
 
 unfoldable pub lookedByHeaders : Layout → (volatile saved : List ℕ) → ℤ → List ℕ
-lookedByHeaders L volatile saved n = bytesOf (placedByHeaders L volatile saved n) volatile saved
+lookedByHeaders L volatile saved n = bytesPlaced (placedByHeaders L volatile saved n) volatile saved
