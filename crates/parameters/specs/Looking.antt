@@ -10,6 +10,8 @@ use Rattle.numbers.specs.Integers.{integerAt}
 use Rattle.points.specs.Reading.{pointAt}
 use Rattle.parameters.specs.declared.Entry.{Entry}
 use Rattle.parameters.specs.declared.Entry.the-variants.{AnInteger}
+use Rattle.parameters.specs.declared.Parameters.{Parameters}
+use Rattle.parameters.specs.declared.Run.{Run}
 use Rattle.parameters.specs.declared.ParametersRead.{ParametersRead}
 use Rattle.parameters.specs.declared.ParametersRead.the-variants.{Whole}
 use Rattle.parameters.specs.declared.TwoEntriesRead.{TwoEntriesRead}
@@ -75,9 +77,11 @@ parametersAt kept shape s at =
     then (fixedAt kept (shape .fixed) s at) (λ f. then (tailAt (f .kept) (shape .tail) s (f .next)) (λ h. with f (shape .tail) h))
 
 -- what the answer says
+abbrev pub parsedAs : Parameters → Run → ℕ → Remembered → Parsed
+parsedAs ps run next kept = record { values = valuesOf ps; tail = tailOf ps; start = run .start; count = run .count; next = next; kept = kept }
+
 unfoldable pub lookOf : ParametersRead → Answer Parsed
-lookOf (Whole t) =
-    done (record { values = valuesOf (t .parameters); tail = tailOf (t .parameters); start = t .run .start; count = t .run .count; next = t .next; kept = t .kept })
+lookOf (Whole t) = done (parsedAs (t .parameters) (t .run) (t .next) (t .kept))
 lookOf (ParametersRead.Refused e p) = refused (numberOf e) p
 
 -- ---- the entries, and the lent list behind them

@@ -98,15 +98,6 @@ lastFrom before (place p ∷ vs) = lastFrom (last p) vs
 abbrev pub lastPoint : List Value → Pointed
 lastPoint vs = lastFrom noPoint vs
 
--- the parameters that are a string or an array, alone or behind an integer
-abbrev pub onlyList : Entry → Parameters
-onlyList AnInteger = AnArray
-onlyList ACharacter = AString
-
-abbrev pub integerThenList : ℤ → Entry → Parameters
-integerThenList a AnInteger = IntegerThenArray a
-integerThenList a ACharacter = IntegerThenString a
-
 -- ---- what the answers say
 
 abbrev pub tailMeant : Tail → Tailed

@@ -6,12 +6,13 @@ ghost use Prim.Native.Nat.{_≤_};
 ghost use lib.ListN.{length, take};
 ghost use lib.Seq.{sets};
 ghost use lib.IntN.{pos};
+ghost use Rattle.refusals.specs.Answers.{done};
 ghost use Rattle.table.specs.Table.{oneInteger, twoIntegers, threeIntegers, onePoint, twoPoints, aReal, twoCharacters, kindMeant};
 ghost use Rattle.numbers.specs.Integers.{integerOf};
 ghost use Rattle.parameters.specs.Entries.{entryAt, entryValues, entriesEndOf, entriesEnd, runOf, runAt, handed, afterRun};
-ghost use Rattle.parameters.specs.Shapes.{shapeOf, listShape, integerThenListShape, onlyList, integerThenList, valuesOf, tailOf, lastPoint, tailMeant, pointMeant};
+ghost use Rattle.parameters.specs.Shapes.{shapeOf, listShape, integerThenListShape, listOf, number, valuesOf, tailOf, lastPoint, tailMeant, pointMeant};
 ghost use Rattle.parameters.specs.Numbers.{Holds};
-ghost use Rattle.parameters.specs.Looking.{twoEntriesOf, twoEntriesAt, lookOf, parametersAt, afterLook};
+ghost use Rattle.parameters.specs.Looking.{twoEntriesOf, twoEntriesAt, parsedAs, lookOf, parametersAt, afterLook};
 use memory::Point;
 use memory::Remembered;
 use numbers::CountRead;
@@ -206,7 +207,7 @@ fn run_of(kept: Remembered, entry: Entry, s: &[u8], at: usize, list: &mut [i32])
 // ---- each kind
 
 fn whole(parameters: Parameters, run: Run, next: usize, kept: Remembered) -> ParametersRead
-    ensures { λ r. ⌜ r ≡ ParametersRead.Whole (record { parameters = parameters; run = run; next = next; kept = kept }) ⌝ }
+    ensures { λ r. ⌜ lookOf r ≡ done (parsedAs parameters run next kept) ⌝ }
 {
     let taken = TakenParameters {
         parameters: parameters,
@@ -219,7 +220,7 @@ fn whole(parameters: Parameters, run: Run, next: usize, kept: Remembered) -> Par
 
 // What was read of a kind without a list.
 fn without_list(parameters: Parameters, next: usize, kept: Remembered) -> ParametersRead
-    ensures { λ r. ⌜ r ≡ ParametersRead.Whole (record { parameters = parameters; run = record { start = 0; count = 0 }; next = next; kept = kept }) ⌝ }
+    ensures { λ r. ⌜ lookOf r ≡ done (parsedAs parameters (record { start = 0; count = 0 }) next kept) ⌝ }
 {
     let run = Run { start: 0, count: 0 };
     whole(parameters, run, next, kept)
@@ -336,7 +337,7 @@ fn look_two_points(kept: Remembered, s: &[u8], at: usize) -> ParametersRead
 }
 
 fn only_list(entry: Entry) -> Parameters
-    ensures { λ r. ⌜ r ≡ onlyList entry ⌝ }
+    ensures { λ r. ⌜ (valuesOf r ≡ []) × (tailOf r ≡ listOf entry) ⌝ }
 {
     match entry {
         Entry::AnInteger => Parameters::AnArray,
@@ -345,7 +346,7 @@ fn only_list(entry: Entry) -> Parameters
 }
 
 fn integer_then_list(a: i32, entry: Entry) -> Parameters
-    ensures { λ r. ⌜ r ≡ integerThenList a entry ⌝ }
+    ensures { λ r. ⌜ (valuesOf r ≡ number Entry.AnInteger a ∷ []) × (tailOf r ≡ listOf entry) ⌝ }
 {
     match entry {
         Entry::AnInteger => Parameters::IntegerThenArray(a),
