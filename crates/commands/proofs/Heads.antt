@@ -16,7 +16,7 @@ use Rattle.refusals.specs.Answers.{Answer, done, refused, then, pick}
 use Rattle.table.specs.declared.Kind.{Kind}
 use Rattle.table.specs.declared.Found.{Found}
 use Rattle.table.specs.declared.Found.the-variants.{Is, NoKind}
-use Rattle.table.specs.Table.{begins, kindOf}
+use Rattle.table.specs.Table.{ParameterKind, kindMeant, begins, kindOf, foundOf}
 use Rattle.parameters.specs.declared.TakenParameters.{TakenParameters}
 use Rattle.parameters.specs.declared.ParametersRead.{ParametersRead}
 use Rattle.parameters.specs.Entries.{handed}
@@ -42,12 +42,12 @@ module _ (s : List ℕ) (at : ℕ) {r : LetterRead} (er : letterOf r ≡ letterA
   first-none g = rw (← er, g)
 
   module _ {b : ℕ} (g : r ≡ Letter b) where
-    pub second-is : (a : ℕ) {f : Found} {k : Kind} → f ≡ kindOf a b → f ≡ Is k → headOf (Head a b k) ≡ secondAt a s at
-    unfolding secondAt headOf letterOf
+    pub second-is : (a : ℕ) {f : Found} {k : Kind} → foundOf f ≡ kindOf a b → f ≡ Is k → headOf (Head a b k) ≡ secondAt a s at
+    unfolding secondAt headOf letterOf foundOf
     second-is a e h = rw (← er, g, ← e, h)
 
-    pub second-unknown : (a : ℕ) {f : Found} → f ≡ kindOf a b → f ≡ NoKind → headOf (HeadRead.Refused UnknownCommand at) ≡ secondAt a s at
-    unfolding secondAt headOf letterOf
+    pub second-unknown : (a : ℕ) {f : Found} → foundOf f ≡ kindOf a b → f ≡ NoKind → headOf (HeadRead.Refused UnknownCommand at) ≡ secondAt a s at
+    unfolding secondAt headOf letterOf foundOf
     second-unknown a e h = rw (← er, g, ← e, h)
 
     pub first-is : {t : Bool} {q : Answer Letters} → t ≡ begins b → t ≡ true → q ≡ secondAt b s (at + 1) → q ≡ headAt s at
@@ -60,7 +60,7 @@ module _ (s : List ℕ) (at : ℕ) {r : LetterRead} (er : letterOf r ≡ letterA
 
 -- ---- the body
 
-module _ (kept : Remembered) (a b : ℕ) (k : Kind) (s : List ℕ) (start room : ℕ) {r : ParametersRead} (er : lookOf r ≡ parametersAt kept (shapeOf k) s (start + 3)) where
+module _ (kept : Remembered) (a b : ℕ) (k : ParameterKind) (s : List ℕ) (start room : ℕ) {r : ParametersRead} (er : lookOf r ≡ parametersAt kept (shapeOf k) s (start + 3)) where
   pub body-refused : {x : Refusal} {p : ℕ} → r ≡ ParametersRead.Refused x p → commandOf (CommandRead.Refused x p) ≡ told (bodyAt kept a b k s start room)
   unfolding bodyAt told commandOf lookOf
   body-refused g = rw (← er, g)
@@ -85,7 +85,7 @@ unfolding afterLook handed afterEntries
 body-after a b s start l (done p) = handed-over (leb (p .count) (length l)) (meaning a b s p) start l
 body-after a b s start l (refused e p) = refl
 
-pub body-entries : (kept : Remembered) (a b : ℕ) (k : Kind) (s : List ℕ) (start : ℕ) (l : List ℤ) {o : List ℤ} → o ≡ afterLook s (parametersAt kept (shapeOf k) s (start + 3)) l → o ≡ afterEntries (bodyAt kept a b k s start (length l)) l
+pub body-entries : (kept : Remembered) (a b : ℕ) (k : ParameterKind) (s : List ℕ) (start : ℕ) (l : List ℤ) {o : List ℤ} → o ≡ afterLook s (parametersAt kept (shapeOf k) s (start + 3)) l → o ≡ afterEntries (bodyAt kept a b k s start (length l)) l
 unfolding bodyAt
 body-entries kept a b k s start l j = j ∙ body-after a b s start l (parametersAt kept (shapeOf k) s (start + 3))
 
@@ -112,10 +112,10 @@ module _ (kept : Remembered) (s : List ℕ) (start room : ℕ) where
     kept-none l g = rw (lt-ltb start (length s) h, ← er, g)
 
     module _ {a b : ℕ} {k : Kind} (g : r ≡ Head a b k) where
-      pub command-is : {q : Answer ToldCommand} → q ≡ told (bodyAt kept a b k s start room) → q ≡ told (commandAt kept s start room)
+      pub command-is : {q : Answer ToldCommand} → q ≡ told (bodyAt kept a b (kindMeant k) s start room) → q ≡ told (commandAt kept s start room)
       unfolding commandAt headOf
       command-is j = rw (lt-ltb start (length s) h, ← er, g) j
 
-      pub entries-are : (l : List ℤ) {o : List ℤ} → o ≡ afterEntries (bodyAt kept a b k s start room) l → o ≡ afterEntries (commandAt kept s start room) l
+      pub entries-are : (l : List ℤ) {o : List ℤ} → o ≡ afterEntries (bodyAt kept a b (kindMeant k) s start room) l → o ≡ afterEntries (commandAt kept s start room) l
       unfolding commandAt headOf
       entries-are l j = rw (lt-ltb start (length s) h, ← er, g) j

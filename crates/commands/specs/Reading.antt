@@ -8,13 +8,9 @@ use lib.IntN.{ℤ}
 use Rattle.memory.specs.declared.Remembered.{Remembered}
 use Rattle.refusals.specs.Refusals.{numberOf}
 use Rattle.refusals.specs.Answers.{Answer, done, refused, then, pick}
-use Rattle.table.specs.declared.Kind.{Kind}
-use Rattle.table.specs.declared.Found.{Found}
-use Rattle.table.specs.declared.Found.the-variants.{Is, NoKind}
-use Rattle.table.specs.Table.{begins, kindOf}
+use Rattle.table.specs.Table.{ParameterKind, Tabled, inTable, notInTable, kindMeant, begins, kindOf}
 use Rattle.parameters.specs.declared.Parameters.{Parameters}
-use Rattle.parameters.specs.declared.Tail.{Tail}
-use Rattle.parameters.specs.Shapes.{Value, shapeOf, valuesOf, tailOf}
+use Rattle.parameters.specs.Shapes.{Tailed, Value, shapeOf, valuesOf, tailOf}
 use Rattle.parameters.specs.Looking.{Parsed, parametersAt, parsedEntries}
 use Rattle.commands.specs.declared.TakenCommand.{TakenCommand}
 use Rattle.commands.specs.declared.CommandRead.{CommandRead}
@@ -37,15 +33,15 @@ letterOf (LetterRead.Refused e p) = refused (numberOf e) p
 pub record Letters : Type 0 where
   pub first : ℕ
   pub second : ℕ
-  pub kind : Kind
+  pub kind : ParameterKind
 
 unfoldable pub headOf : HeadRead → Answer Letters
-headOf (Head a b k) = done (record { first = a; second = b; kind = k })
+headOf (Head a b k) = done (record { first = a; second = b; kind = kindMeant k })
 headOf (HeadRead.Refused e p) = refused (numberOf e) p
 
-abbrev pub completed : ℕ → ℕ → ℕ → Found → Answer Letters
-completed a b at (Is k) = done (record { first = a; second = b; kind = k })
-completed a b at NoKind = refused 2 at
+abbrev pub completed : ℕ → ℕ → ℕ → Tabled → Answer Letters
+completed a b at (inTable k) = done (record { first = a; second = b; kind = k })
+completed a b at notInTable = refused 2 at
 
 -- "A first letter that begins no command, or a second that completes none, is refusal 2 there."
 unfoldable pub secondAt : ℕ → List ℕ → ℕ → Answer Letters
@@ -61,7 +57,7 @@ pub record Meaning : Type 0 where
   pub first : ℕ
   pub second : ℕ
   pub values : List Value
-  pub tail : Tail
+  pub tail : Tailed
   pub count : ℕ
   pub entries : List ℤ
   pub next : ℕ
@@ -80,7 +76,7 @@ meaning a b s p = record {
 }
 
 -- "Refusal 7 comes only for a whole command; its place is the command's start"
-unfoldable pub bodyAt : Remembered → ℕ → ℕ → Kind → List ℕ → ℕ → ℕ → Answer Meaning
+unfoldable pub bodyAt : Remembered → ℕ → ℕ → ParameterKind → List ℕ → ℕ → ℕ → Answer Meaning
 bodyAt kept a b k s start room =
     then (parametersAt kept (shapeOf k) s (start + 3)) (λ p. pick (leb (p .count) room) (done (meaning a b s p)) (refused 7 start))
 
@@ -97,7 +93,7 @@ pub record ToldCommand : Type 0 where
   pub first : ℕ
   pub second : ℕ
   pub values : List Value
-  pub tail : Tail
+  pub tail : Tailed
   pub count : ℕ
   pub next : ℕ
   pub kept : Remembered

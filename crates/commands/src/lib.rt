@@ -1,6 +1,7 @@
 // A whole command, read: ESC, two capital letters, then its parameters.
 ghost use mathlib.Core.Path.{_≡_};
 ghost use lib.ListN.{length};
+ghost use Rattle.table.specs.Table.{kindMeant};
 ghost use Rattle.commands.specs.Reading.{letterOf, letterAt, headOf, secondAt, headAt, bodyAt, commandOf, commandAt, told, afterEntries};
 ghost use Prim.Native.Nat.{_<_, _≤_};
 use memory::Remembered;
@@ -95,7 +96,7 @@ fn body(
     list: &mut [i32],
 ) -> CommandRead
     requires { ⌜ start < length (now s) ⌝ }
-    ensures { λ r. ⌜ (commandOf r ≡ told (bodyAt kept first second kind (now (s .entry)) start (length (now (list .entry))))) × (now (list .exit) ≡ afterEntries (bodyAt kept first second kind (now (s .entry)) start (length (now (list .entry)))) (now (list .entry))) ⌝ }
+    ensures { λ r. ⌜ (commandOf r ≡ told (bodyAt kept first second (kindMeant kind) (now (s .entry)) start (length (now (list .entry))))) × (now (list .exit) ≡ afterEntries (bodyAt kept first second (kindMeant kind) (now (s .entry)) start (length (now (list .entry)))) (now (list .entry))) ⌝ }
 {
     let from = start + 3;
     let room = list.len();

@@ -12,9 +12,8 @@ use Rattle.memory.specs.Memory.{inside, freshMemory}
 use Rattle.refusals.proofs.Cases.{by-pick}
 use Rattle.signs.specs.Signs.{isNegative}
 use Rattle.macros.specs.Store.{threeBytes, lookedUp}
-use Rattle.pieces.specs.declared.Piece.{Piece}
-use Rattle.pieces.specs.declared.Piece.the-variants as Piece
-use Rattle.pieces.specs.Pieces.{pieceAt}
+use Rattle.pieces.specs.Pieces.{Pieced, pieceAt}
+use Rattle.pieces.specs.Pieces as Pieces
 use Rattle.pieces.proofs.Within.{copied-inside, called-inside}
 use Rattle.expansion.specs.Expansion.{Stretch, andThen, onPiece, walked, opened, entering, callStretch, started}
 
@@ -25,11 +24,11 @@ then-inside : (c : Stretch) (rest : Remembered → ℕ → Stretch) → Inside c
 then-inside c rest h f = by-pick Inside (eqb (c .number) 0) _ _ (λ t. f (c .kept) (c .entered) h) (λ t. h)
 
 module _ (call : ℤ → Remembered → ℕ → Stretch) (calls : (number : ℤ) (kept : Remembered) (n : ℕ) → inside (kept .point) ≡ true → Inside (call number kept n)) (body : List ℕ) where
-  piece-inside : (rest : ℕ → Remembered → ℕ → Stretch) → ((next : ℕ) (kept : Remembered) (n : ℕ) → inside (kept .point) ≡ true → Inside (rest next kept n)) → (i : ℕ) (kept : Remembered) (n : ℕ) (p : Piece) → pieceAt kept body i ≡ p → inside (kept .point) ≡ true → Inside (onPiece call rest body i kept n p)
-  piece-inside rest f i kept n Piece.End e j = j
-  piece-inside rest f i kept n (Piece.Copied next after) e j = f next after n (copied-inside kept body i j e)
-  piece-inside rest f i kept n (Piece.Called number next after) e j = then-inside (call number after n) (rest next) (calls number after n (called-inside kept body i j e)) (f next)
-  piece-inside rest f i kept n Piece.Refused e j = j
+  piece-inside : (rest : ℕ → Remembered → ℕ → Stretch) → ((next : ℕ) (kept : Remembered) (n : ℕ) → inside (kept .point) ≡ true → Inside (rest next kept n)) → (i : ℕ) (kept : Remembered) (n : ℕ) (p : Pieced) → pieceAt kept body i ≡ p → inside (kept .point) ≡ true → Inside (onPiece call rest body i kept n p)
+  piece-inside rest f i kept n Pieces.end e j = j
+  piece-inside rest f i kept n (Pieces.copied next after) e j = f next after n (copied-inside kept body i j e)
+  piece-inside rest f i kept n (Pieces.called number next after) e j = then-inside (call number after n) (rest next) (calls number after n (called-inside kept body i j e)) (f next)
+  piece-inside rest f i kept n (Pieces.trouble x) e j = j
 
   walked-inside : (k i : ℕ) (kept : Remembered) (n : ℕ) → inside (kept .point) ≡ true → Inside (walked call k body i kept n)
   unfolding walked

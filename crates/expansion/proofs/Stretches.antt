@@ -17,9 +17,8 @@ use Rattle.refusals.proofs.Cases.{by-pick}
 use Rattle.signs.specs.Signs.{isNegative}
 use Rattle.macros.specs.Store.{threeBytes, lookedUp}
 use Rattle.expansion.proofs.Bodies.{looked-up-short}
-use Rattle.pieces.specs.declared.Piece.{Piece}
-use Rattle.pieces.specs.declared.Piece.the-variants as Piece
-use Rattle.pieces.specs.Pieces.{pieceAt}
+use Rattle.pieces.specs.Pieces.{Pieced, pieceAt}
+use Rattle.pieces.specs.Pieces as Pieces
 use Rattle.pieces.proofs.Within.{copied-onward, called-onward}
 use Rattle.expansion.specs.Expansion.{Stretch, gives, stops, front, andThen, itemBytes, onPiece, walked, wholeBody, opened, entering, callStretch, started}
 
@@ -38,13 +37,13 @@ module _ (call : ℤ → Remembered → ℕ → Stretch) (body : List ℕ) where
   unfolding walked
   walked-step k i kept n = rw (add-one k)
 
-  piece-same : (rest other : ℕ → Remembered → ℕ → Stretch) (i : ℕ) (kept : Remembered) (n : ℕ) (p : Piece) → pieceAt kept body i ≡ p → ((next : ℕ) (after : Remembered) (m : ℕ) → (i < next) × (next ≤ length body) → rest next after m ≡ other next after m) → onPiece call rest body i kept n p ≡ onPiece call other body i kept n p
-  piece-same rest other i kept n Piece.End e f = refl
-  piece-same rest other i kept n (Piece.Copied next after) e f = ap (front (itemBytes i next body)) (f next after n (copied-onward kept body i e))
-  piece-same rest other i kept n (Piece.Called number next after) e f =
+  piece-same : (rest other : ℕ → Remembered → ℕ → Stretch) (i : ℕ) (kept : Remembered) (n : ℕ) (p : Pieced) → pieceAt kept body i ≡ p → ((next : ℕ) (after : Remembered) (m : ℕ) → (i < next) × (next ≤ length body) → rest next after m ≡ other next after m) → onPiece call rest body i kept n p ≡ onPiece call other body i kept n p
+  piece-same rest other i kept n Pieces.end e f = refl
+  piece-same rest other i kept n (Pieces.copied next after) e f = ap (front (itemBytes i next body)) (f next after n (copied-onward kept body i e))
+  piece-same rest other i kept n (Pieces.called number next after) e f =
       let c = call number after n in
       ap (λ (x : Stretch). pick (eqb (c .number) 0) (front (c .bytes) x) c) (f next (c .kept) (c .entered) (called-onward kept body i e))
-  piece-same rest other i kept n Piece.Refused e f = refl
+  piece-same rest other i kept n (Pieces.trouble x) e f = refl
 
   pub fuel-enough : (k l i : ℕ) (kept : Remembered) (n : ℕ) → length body - i < k → length body - i < l → walked call k body i kept n ≡ walked call l body i kept n
   unfolding walked
@@ -76,16 +75,16 @@ small-then c rest left less n h s f =
     (λ t. record { few = s .few; cap = omega (arith, s .cap) })
 
 module _ (call : ℤ → Remembered → ℕ → Stretch) (small : (number : ℤ) (kept : Remembered) (n : ℕ) → n ≤ 1024 → Small (call number kept n) 0 n) (body : List ℕ) where
-  piece-small : (rest : ℕ → Remembered → ℕ → Stretch) (i : ℕ) (kept : Remembered) (n : ℕ) (p : Piece) → pieceAt kept body i ≡ p → n ≤ 1024 → ((next : ℕ) (after : Remembered) (m : ℕ) → m ≤ 1024 → Small (rest next after m) (length body - next) m) → Small (onPiece call rest body i kept n p) (length body - i) n
-  piece-small rest i kept n Piece.End e h f = small-gives (length body - i) n kept h
-  piece-small rest i kept n (Piece.Copied next after) e h f =
+  piece-small : (rest : ℕ → Remembered → ℕ → Stretch) (i : ℕ) (kept : Remembered) (n : ℕ) (p : Pieced) → pieceAt kept body i ≡ p → n ≤ 1024 → ((next : ℕ) (after : Remembered) (m : ℕ) → m ≤ 1024 → Small (rest next after m) (length body - next) m) → Small (onPiece call rest body i kept n p) (length body - i) n
+  piece-small rest i kept n Pieces.end e h f = small-gives (length body - i) n kept h
+  piece-small rest i kept n (Pieces.copied next after) e h f =
       let w = copied-onward kept body i e in
       let l = item-long i next body (w .1) in
       small-front (itemBytes i next body) (rest next after n) (length body - i) (length body - next) n n (omega (arith, w .0, w .1, l)) (f next after n h)
-  piece-small rest i kept n (Piece.Called number next after) e h f =
+  piece-small rest i kept n (Pieces.called number next after) e h f =
       let w = called-onward kept body i e in
       small-then (call number after n) (rest next) (length body - i) (length body - next) n (omega (arith, w .0)) (small number after n h) (f next)
-  piece-small rest i kept n Piece.Refused e h f = small-stops 17 (length body - i) n kept h
+  piece-small rest i kept n (Pieces.trouble x) e h f = small-stops x (length body - i) n kept h
 
   walked-small : (k i : ℕ) (kept : Remembered) (n : ℕ) → n ≤ 1024 → Small (walked call k body i kept n) (length body - i) n
   unfolding walked

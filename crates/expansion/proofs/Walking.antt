@@ -21,7 +21,7 @@ use Rattle.refusals.proofs.Numbers.{not-nought}
 use Rattle.refusals.proofs.Many.{sets-append}
 use Rattle.pieces.specs.declared.Piece.{Piece}
 use Rattle.pieces.specs.declared.Piece.the-variants as Piece
-use Rattle.pieces.specs.Pieces.{pieceAt}
+use Rattle.pieces.specs.Pieces.{pieceAt, pieceOf}
 use Rattle.pieces.proofs.Within.{copied-onward, called-onward}
 use Rattle.expansion.specs.declared.Going.{Going}
 use Rattle.expansion.specs.declared.Step.{Step}
@@ -103,35 +103,38 @@ module _ (volatile saved : List ℕ) (d : ℕ) (body : List ℕ) (from : Going) 
         subst (λ (x : Stretch). Ran x (from .at) out₀ out′ r) (ap (front (w .given)) (sym e) ∙ w .whole)
         (ran-given (w .given) c (from .at) out₀ out out′ r (w .stands) (subst (λ (k : ℕ). Ran c k out out′ r) (w .here) ran))
 
-    module _ {p : Piece} (ep : p ≡ pieceAt (going .kept) body i) where
-      here-is : {q : Piece} → p ≡ q → walked (callStretch volatile saved d) (length body - i + 1) body i (going .kept) (going .entered) ≡ onPiece (callStretch volatile saved d) (walked (callStretch volatile saved d) (length body - i) body) body i (going .kept) (going .entered) q
+    -- what is left behind a piece, with the fuel for it
+    onward : (bs : List ℕ) (next : ℕ) (after : Going) {out′ : List ℕ} → (i < next) × (next ≤ length body) → walked (callStretch volatile saved d) (length body - i + 1) body i (going .kept) (going .entered) ≡ front bs (walked (callStretch volatile saved d) (length body - i) body next (after .kept) (after .entered)) → after .at ≡ going .at + length bs → after .entered ≤ 1024 → length bs + 256 * (1024 - after .entered) ≤ next - i + 256 * (1024 - going .entered) → out′ ≡ sets out (going .at) bs → Walking volatile saved d body from out₀ after next out′
+    onward bs next after {out′ = out′} h e at few cap stands =
+        let la = length-append (w .given) bs in
+        let fuel = fuel-enough (callStretch volatile saved d) body (length body - i) (length body - next + 1) next (after .kept) (after .entered) (omega (arith, h .0, h .1)) (omega arith) in
+        record {
+          few = few;
+          given = w .given ++ bs;
+          here = omega (arith, at, w .here, la);
+          stands = stands ∙ ap (λ (l : List ℕ). sets l (going .at) bs) (w .stands) ∙ ap (λ (k : ℕ). sets (sets out₀ (from .at) (w .given)) k bs) (w .here) ∙ sets-append (w .given) bs out₀ (from .at);
+          cap = omega (arith, w .cap, cap, la, h .0, h .1);
+          whole = sym (front-front (w .given) bs _) ∙ ap (λ (x : Stretch). front (w .given) (front bs x)) (sym fuel) ∙ ap (front (w .given)) (sym e) ∙ w .whole;
+        }
+
+    module _ {p : Piece} (ep : pieceOf p ≡ pieceAt (going .kept) body i) where
+      here-is : {q : Piece} → p ≡ q → walked (callStretch volatile saved d) (length body - i + 1) body i (going .kept) (going .entered) ≡ onPiece (callStretch volatile saved d) (walked (callStretch volatile saved d) (length body - i) body) body i (going .kept) (going .entered) (pieceOf q)
       here-is e =
           walked-step (callStretch volatile saved d) body (length body - i) i (going .kept) (going .entered)
-          ∙ ap (onPiece (callStretch volatile saved d) (walked (callStretch volatile saved d) (length body - i) body) body i (going .kept) (going .entered)) (sym ep ∙ e)
+          ∙ ap (onPiece (callStretch volatile saved d) (walked (callStretch volatile saved d) (length body - i) body) body i (going .kept) (going .entered)) (sym ep ∙ ap pieceOf e)
 
       pub walked-end : p ≡ Piece.End → Ran (bodyStretch volatile saved d body (from .kept) (from .entered)) (from .at) out₀ out (Step.On going)
+      unfolding pieceOf
       walked-end e = ends _ (here-is e) (ran-none going out)
 
       pub piece-refused : p ≡ Piece.Refused → Ran (bodyStretch volatile saved d body (from .kept) (from .entered)) (from .at) out₀ out (Step.Refused BodyRefused)
+      unfolding pieceOf
       piece-refused e = ends _ (here-is e) (ran-stops BodyRefused (going .at) (going .entered) (going .kept) out)
-
-      -- what is left behind the piece, with the fuel for it
-      onward : (bs : List ℕ) (next : ℕ) (after : Going) {out′ : List ℕ} → (i < next) × (next ≤ length body) → walked (callStretch volatile saved d) (length body - i + 1) body i (going .kept) (going .entered) ≡ front bs (walked (callStretch volatile saved d) (length body - i) body next (after .kept) (after .entered)) → after .at ≡ going .at + length bs → after .entered ≤ 1024 → length bs + 256 * (1024 - after .entered) ≤ next - i + 256 * (1024 - going .entered) → out′ ≡ sets out (going .at) bs → Walking volatile saved d body from out₀ after next out′
-      onward bs next after {out′ = out′} h e at few cap stands =
-          let la = length-append (w .given) bs in
-          let fuel = fuel-enough (callStretch volatile saved d) body (length body - i) (length body - next + 1) next (after .kept) (after .entered) (omega (arith, h .0, h .1)) (omega arith) in
-          record {
-            few = few;
-            given = w .given ++ bs;
-            here = omega (arith, at, w .here, la);
-            stands = stands ∙ ap (λ (l : List ℕ). sets l (going .at) bs) (w .stands) ∙ ap (λ (k : ℕ). sets (sets out₀ (from .at) (w .given)) k bs) (w .here) ∙ sets-append (w .given) bs out₀ (from .at);
-            cap = omega (arith, w .cap, cap, la, h .0, h .1);
-            whole = sym (front-front (w .given) bs _) ∙ ap (λ (x : Stretch). front (w .given) (front bs x)) (sym fuel) ∙ ap (front (w .given)) (sym e) ∙ w .whole;
-          }
 
       module _ {next : ℕ} {after : Remembered} (g : p ≡ Piece.Copied next after) where
         copied-within : (i < next) × (next ≤ length body)
-        copied-within = copied-onward (going .kept) body i (sym ep ∙ g)
+        unfolding pieceOf
+        copied-within = copied-onward (going .kept) body i (sym ep ∙ ap pieceOf g)
 
         pub copied-from : i ≤ next
         copied-from = let h = copied-within in omega (arith, h .0)
@@ -146,6 +149,7 @@ module _ (volatile saved : List ℕ) (d : ℕ) (body : List ℕ) (from : Going) 
         copied-counts r = let h = copied-within in omega (arith, h .0, h .1, w .here, w .cap, r .fits)
 
         pub walking-copied : {out′ : List ℕ} → out′ ≡ sets out (going .at) (itemBytes i next body) → Walking volatile saved d body from out₀ (record { at = going .at + (next - i); entered = going .entered; kept = after }) next out′
+        unfolding pieceOf
         walking-copied stands =
             let h = copied-within in
             let l = item-long i next body (h .1) in
@@ -153,7 +157,8 @@ module _ (volatile saved : List ℕ) (d : ℕ) (body : List ℕ) (from : Going) 
 
       module _ {number : ℤ} {next : ℕ} {after : Remembered} (g : p ≡ Piece.Called number next after) where
         called-within : (i < next) × (next ≤ length body)
-        called-within = called-onward (going .kept) body i (sym ep ∙ g)
+        unfolding pieceOf
+        called-within = called-onward (going .kept) body i (sym ep ∙ ap pieceOf g)
 
         pub called-less : length body - next < length body - i
         called-less = let h = called-within in omega (arith, h .0, h .1)
@@ -170,7 +175,7 @@ module _ (volatile saved : List ℕ) (d : ℕ) (body : List ℕ) (from : Going) 
           ran-called = rw (toZ-ofZ f) at ran
 
           pub walking-called : {behind : Going} → r ≡ Step.On behind → Walking volatile saved d body from out₀ behind next out′
-          unfolding called
+          unfolding called pieceOf
           walking-called e =
               let q = went-on (going .at) called (ran-called .told) e in
               let small = call-small volatile saved d number after (going .entered) (w .few) in
@@ -180,7 +185,7 @@ module _ (volatile saved : List ℕ) (d : ℕ) (body : List ℕ) (from : Going) 
               (onward (called .bytes) next into called-within (here-is g ∙ step) refl (small .few) (omega (arith, small .cap)) (ran-called .stands))
 
           pub walked-refused : {x : Refusal} → r ≡ Step.Refused x → Ran (bodyStretch volatile saved d body (from .kept) (from .entered)) (from .at) out₀ out′ (Step.Refused x)
-          unfolding called
+          unfolding called pieceOf
           walked-refused {x = x} e =
               let q = was-refused (going .at) called (ran-called .told) e in
               let step : andThen called (walked (callStretch volatile saved d) (length body - i) body next) ≡ called = rw (q .0) in

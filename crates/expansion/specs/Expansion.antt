@@ -11,9 +11,7 @@ use Rattle.signs.specs.Signs.{isNegative}
 use Rattle.refusals.specs.Refusals.{numberOf}
 use Rattle.refusals.specs.Answers.{pick, demand}
 use Rattle.macros.specs.Store.{threeBytes, lookedUp, findRefusal}
-use Rattle.pieces.specs.declared.Piece.{Piece}
-use Rattle.pieces.specs.declared.Piece.the-variants as Piece
-use Rattle.pieces.specs.Pieces.{pieceAt}
+use Rattle.pieces.specs.Pieces.{Pieced, end, copied, called, trouble, pieceAt}
 use Rattle.expansion.specs.declared.Expansion.{Expansion}
 use Rattle.expansion.specs.declared.Expansion.the-variants as Expansion
 use Rattle.expansion.specs.declared.Going.{Going}
@@ -48,12 +46,12 @@ andThen c rest = pick (eqb (c .number) 0) (front (c .bytes) (rest (c .kept) (c .
 abbrev pub itemBytes : (i next : ℕ) → List ℕ → List ℕ
 itemBytes i next body = take (next - i) (drop i body)
 
--- an item is copied, a KX is replaced; 17 for a refused or cut command
-abbrev pub onPiece : (ℤ → Remembered → ℕ → Stretch) → (ℕ → Remembered → ℕ → Stretch) → List ℕ → ℕ → Remembered → ℕ → Piece → Stretch
-onPiece call rest body i kept n Piece.End = gives [] n kept
-onPiece call rest body i kept n (Piece.Copied next after) = front (itemBytes i next body) (rest next after n)
-onPiece call rest body i kept n (Piece.Called number next after) = andThen (call number after n) (rest next)
-onPiece call rest body i kept n Piece.Refused = stops 17 n kept
+-- an item is copied, a KX is replaced; trouble ends it
+abbrev pub onPiece : (ℤ → Remembered → ℕ → Stretch) → (ℕ → Remembered → ℕ → Stretch) → List ℕ → ℕ → Remembered → ℕ → Pieced → Stretch
+onPiece call rest body i kept n end = gives [] n kept
+onPiece call rest body i kept n (copied next after) = front (itemBytes i next body) (rest next after n)
+onPiece call rest body i kept n (called number next after) = andThen (call number after n) (rest next)
+onPiece call rest body i kept n (trouble e) = stops e n kept
 
 -- "Items are taken in byte order": those of a body from i on, with n macros entered before; call says what a KX gives. There are fewer
 -- than k pieces left.

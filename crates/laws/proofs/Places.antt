@@ -23,16 +23,11 @@ use Rattle.numbers.specs.Integers.{integerFrom, integerAt, inRange}
 use Rattle.numbers.specs.Counts.{asCount, countIn, countAt}
 use Rattle.points.specs.declared.PointBytes.{PointBytes}
 use Rattle.points.specs.Layout.{bytesOf}
-use Rattle.table.specs.declared.Kind.{Kind}
-use Rattle.table.specs.declared.Found.{Found}
-use Rattle.table.specs.declared.Found.the-variants.{Is, NoKind}
-use Rattle.table.specs.Table.{kindOf, begins}
+use Rattle.table.specs.Table.{ParameterKind, Tabled, inTable, notInTable, kindOf, begins}
 use Rattle.parameters.specs.declared.Entry.{Entry}
 use Rattle.parameters.specs.declared.Entry.the-variants.{AnInteger, ACharacter}
 use Rattle.parameters.specs.Entries.{entryAt, asEntry, CountedRun, runAt}
-use Rattle.parameters.specs.declared.Tail.{Tail}
-use Rattle.parameters.specs.declared.Tail.the-variants.{NoList, ListOf}
-use Rattle.parameters.specs.Shapes.{Part, single, real, point, Value, shapeOf}
+use Rattle.parameters.specs.Shapes.{Tailed, noList, listOf, Part, single, real, point, Value, shapeOf}
 use Rattle.parameters.specs.Looking.{TwoEntries, twoEntriesAt, Fixed, partAt, fixedAt, tailAt, Parsed, parametersAt}
 use Rattle.points.specs.Reading.{byKind, notAllowed, endsAt, loX, lastAt, afterLoY, afterUpper, afterHiY, pointFrom, pointAt}
 use Rattle.commands.specs.Reading.{letterAt, Letters, completed, secondAt, headAt, Meaning, bodyAt, commandAt}
@@ -213,10 +208,10 @@ module _ (kept : Remembered) (s : List ℕ) where
   abbrev heldNext : CountedRun → ℕ
   heldNext h = h .next
 
-  tail-ranged : (t : Tail) (at : ℕ) → at ≤ length s → Ranged heldNext at (length s) (tailAt kept t s at)
+  tail-ranged : (t : Tailed) (at : ℕ) → at ≤ length s → Ranged heldNext at (length s) (tailAt kept t s at)
   unfolding tailAt runAt
-  tail-ranged NoList at i = ranged-done heldNext at (length s) _ (omega arith) i
-  tail-ranged (ListOf e) at i =
+  tail-ranged noList at i = ranged-done heldNext at (length s) _ (omega arith) i
+  tail-ranged (listOf e) at i =
       ranged-then onward heldNext at (length s) (countAt kept s at) _ (count-ranged at i)
       (λ c q f w. farther heldNext at (c .next) (length s) _ f
       (ranged-then itself heldNext (c .next) (length s) (endsAfter (entryAt e kept s) (c .value) (c .next)) _ (entries-ranged e (c .value) (c .next) w)
@@ -259,7 +254,7 @@ fixed-ranged kept (p ∷ ps) s at j i =
     (ranged-then (λ (g : Fixed). g .next) (λ (g : Fixed). g .next) (f .next) (length s) (fixedAt (f .kept) ps s (f .next)) _ (fixed-ranged (f .kept) ps s (f .next) n w)
     (λ g q y z. ranged-done (λ (h : Fixed). h .next) (f .next) (length s) _ y z)))
 
-parameters-ranged : (kept : Remembered) (k : Kind) (s : List ℕ) (at : ℕ) → inside (kept .point) ≡ true → at ≤ length s → Ranged (λ (p : Parsed). p .next) at (length s) (parametersAt kept (shapeOf k) s at)
+parameters-ranged : (kept : Remembered) (k : ParameterKind) (s : List ℕ) (at : ℕ) → inside (kept .point) ≡ true → at ≤ length s → Ranged (λ (p : Parsed). p .next) at (length s) (parametersAt kept (shapeOf k) s at)
 unfolding parametersAt
 parameters-ranged kept k s at j i =
     ranged-then (λ (f : Fixed). f .next) (λ (p : Parsed). p .next) at (length s) (fixedAt kept (shapeOf k .fixed) s at) _ (fixed-ranged kept (shapeOf k .fixed) s at j i)
@@ -288,9 +283,9 @@ letter-ranged s at i =
     (λ u. ranged-done (λ (b : ℕ). at) at (length s) _ (omega arith) i))
     (λ t. ranged-refused (λ (b : ℕ). at) at (length s) 1 (length s) i (omega arith))
 
-completed-ranged : (s : List ℕ) (at p a b : ℕ) (f : Found) → at ≤ p → p ≤ length s → Ranged (λ (h : Letters). p) at (length s) (completed a b p f)
-completed-ranged s at p a b (Is k) h g = ranged-done (λ (h : Letters). p) at (length s) _ h g
-completed-ranged s at p a b NoKind h g = ranged-refused (λ (h : Letters). p) at (length s) 2 p h g
+completed-ranged : (s : List ℕ) (at p a b : ℕ) (f : Tabled) → at ≤ p → p ≤ length s → Ranged (λ (h : Letters). p) at (length s) (completed a b p f)
+completed-ranged s at p a b (inTable k) h g = ranged-done (λ (h : Letters). p) at (length s) _ h g
+completed-ranged s at p a b notInTable h g = ranged-refused (λ (h : Letters). p) at (length s) 2 p h g
 
 head-ranged : (s : List ℕ) (at : ℕ) → at ≤ length s → Ranged (λ (h : Letters). at + 1) at (length s) (headAt s at)
 unfolding headAt secondAt

@@ -24,15 +24,11 @@ use Rattle.numbers.specs.Counts.{countIn, countAt}
 use Rattle.points.specs.declared.PointBytes.{PointBytes}
 use Rattle.points.specs.Layout.{bytesOf}
 use Rattle.points.specs.Reading.{byKind, notAllowed, endsAt, loX, lastAt, afterLoY, afterUpper, afterHiY, pointFrom, pointAt}
-use Rattle.table.specs.declared.Found.{Found}
-use Rattle.table.specs.declared.Found.the-variants.{Is, NoKind}
-use Rattle.table.specs.Table.{kindOf, begins}
+use Rattle.table.specs.Table.{Tabled, inTable, notInTable, kindOf, begins}
 use Rattle.parameters.specs.declared.Entry.{Entry}
 use Rattle.parameters.specs.declared.Entry.the-variants.{AnInteger, ACharacter}
 use Rattle.parameters.specs.Entries.{entryAt, asEntry, CountedRun, runAt}
-use Rattle.parameters.specs.declared.Tail.{Tail}
-use Rattle.parameters.specs.declared.Tail.the-variants.{NoList, ListOf}
-use Rattle.parameters.specs.Shapes.{Part, single, real, point, Shape, shapeOf}
+use Rattle.parameters.specs.Shapes.{Tailed, noList, listOf, Part, single, real, point, Shape, shapeOf}
 use Rattle.parameters.specs.Looking.{twoEntriesAt, Fixed, partAt, fixedAt, tailAt, Parsed, parametersAt}
 use Rattle.commands.specs.Reading.{letterAt, Letters, completed, secondAt, headAt, Meaning, bodyAt, commandAt}
 use Rattle.laws.proofs.Shortest.{FixedShown, part-good}
@@ -148,10 +144,10 @@ module _ (kept : Remembered) (s : List ℕ) where
   abbrev FewHeld : CountedRun → Type 0
   FewHeld h = h .count ≤ 256
 
-  tail-early : (t : Tail) (at : ℕ) → Early FewHeld (tailAt kept t s at)
+  tail-early : (t : Tailed) (at : ℕ) → Early FewHeld (tailAt kept t s at)
   unfolding tailAt runAt
-  tail-early NoList at = early FewHeld _ (omega arith)
-  tail-early (ListOf e) at =
+  tail-early noList at = early FewHeld _ (omega arith)
+  tail-early (listOf e) at =
       early-then Few FewHeld (countAt kept s at) _ (count-early at)
       (λ c q h. early-then Any FewHeld (endsAfter (entryAt e kept s) (c .value) (c .next)) _ (entries-early e (c .value) (c .next)) (λ n x y. early FewHeld _ h))
 
@@ -193,9 +189,9 @@ letter-early s at =
     (λ t. by-pick (Early Any) (eqb (getD s at 0) 27) _ _ (λ u. low Any 6 _ refl) (λ u. early Any _ tt))
     (λ t. low Any 1 _ refl)
 
-completed-early : (a b p : ℕ) (f : Found) → Early Any (completed a b p f)
-completed-early a b p (Is k) = early Any _ tt
-completed-early a b p NoKind = low Any 2 p refl
+completed-early : (a b p : ℕ) (f : Tabled) → Early Any (completed a b p f)
+completed-early a b p (inTable k) = early Any _ tt
+completed-early a b p notInTable = low Any 2 p refl
 
 head-early : (s : List ℕ) (at : ℕ) → Early Any (headAt s at)
 unfolding headAt secondAt

@@ -24,19 +24,14 @@ use Rattle.points.specs.Reading.{pointAt}
 use Rattle.points.specs.Writing.{spellPoint}
 use Rattle.points.proofs.RoundTrip.{point-back}
 use Rattle.ranges.proofs.Entries.{within-range}
-use Rattle.table.specs.declared.Kind.{Kind}
-use Rattle.table.specs.declared.Kind.the-variants as K
-use Rattle.table.specs.declared.Found.{Found}
-use Rattle.table.specs.declared.Found.the-variants.{Is, NoKind}
-use Rattle.table.specs.Table.{TableRow, table, kindIn, kindOf, beginsIn, begins}
+use Rattle.table.specs.Table.{ParameterKind, Tabled, inTable, notInTable, TableRow, table, kindIn, kindOf, beginsIn, begins}
+use Rattle.table.specs.Table as K
 use Rattle.parameters.specs.declared.Entry.{Entry}
 use Rattle.parameters.specs.declared.Entry.the-variants.{AnInteger, ACharacter}
 use Rattle.parameters.specs.declared.Parameters.{Parameters}
 use Rattle.parameters.specs.declared.Parameters.the-variants.{OneInteger, TwoIntegers, ThreeIntegers, OnePoint, TwoPoints, AReal, TwoCharacters, AString, AnArray, IntegerThenString, IntegerThenArray}
 use Rattle.parameters.specs.Entries.{entryAt, entryValues, CountedRun, runAt}
-use Rattle.parameters.specs.declared.Tail.{Tail}
-use Rattle.parameters.specs.declared.Tail.the-variants.{NoList, ListOf}
-use Rattle.parameters.specs.Shapes.{Part, single, real, point, Value, number, scaled, place, shapeOf, valuesOf, tailOf}
+use Rattle.parameters.specs.Shapes.{Tailed, noList, listOf, Part, single, real, point, Value, number, scaled, place, shapeOf, valuesOf, tailOf}
 use Rattle.parameters.specs.Looking.{twoEntriesAt, partAt, fixedAt, tailAt, Parsed, parametersAt, entryIn}
 use Rattle.commands.specs.declared.Command.{Command}
 use Rattle.commands.specs.Reading.{letterAt, secondAt, headAt, Meaning, meaning, bodyAt, commandAt}
@@ -125,23 +120,23 @@ module _ (s : List ℕ) where
 
   -- ---- the list behind them
 
-  record TailBack (kept : Remembered) (t : Tail) (es : List ℤ) (at : ℕ) : Type 0 where
+  record TailBack (kept : Remembered) (t : Tailed) (es : List ℤ) (at : ℕ) : Type 0 where
     held : CountedRun
     reads : tailAt kept t s at ≡ done held
     number-is : held .count ≡ length (carried t es)
     next-is : held .next ≡ at + length (spellTail kept t es)
     entries-are : entryValues (entryIn t) kept (held .count) s (held .start) ≡ carried t es
 
-  tail-back : (kept : Remembered) (t : Tail) (es : List ℤ) (at : ℕ) → isTail t es ≡ true → Stands s at (spellTail kept t es) → TailBack kept t es at
+  tail-back : (kept : Remembered) (t : Tailed) (es : List ℤ) (at : ℕ) → isTail t es ≡ true → Stands s at (spellTail kept t es) → TailBack kept t es at
   unfolding tailAt spellTail isTail runAt allAfter
-  tail-back kept NoList es at ok st = record {
+  tail-back kept noList es at ok st = record {
     held = record { start = 0; count = 0; next = at };
     reads = refl;
     number-is = refl;
     next-is = omega arith;
     entries-are = refl;
   }
-  tail-back kept (ListOf e) es at ok st =
+  tail-back kept (listOf e) es at ok st =
       let w = sent kept (spell (pos (length es))) in
       let rest = spellEntries e kept es in
       let few = leb-true (length es) 256 (and-left (leb (length es) 256) (areEntries e es) ok) in
@@ -171,41 +166,41 @@ shape-is AnArray = refl
 shape-is (IntegerThenString a) = refl
 shape-is (IntegerThenArray a) = refl
 
-kindNamed : ℕ → Kind
+kindNamed : ℕ → ParameterKind
 kindNamed n =
-    getD (K.OneInteger ∷ K.OneInteger ∷ K.TwoIntegers ∷ K.ThreeIntegers ∷ K.OnePoint ∷ K.TwoPoints ∷ K.AReal ∷ K.AString ∷ K.AnArray ∷ K.IntegerThenArray ∷ K.IntegerThenString ∷ K.TwoCharacters ∷ []) n K.OneInteger
+    getD (K.oneInteger ∷ K.oneInteger ∷ K.twoIntegers ∷ K.threeIntegers ∷ K.onePoint ∷ K.twoPoints ∷ K.aReal ∷ K.aString ∷ K.anArray ∷ K.integerThenArray ∷ K.integerThenString ∷ K.twoCharacters ∷ []) n K.oneInteger
 
-kind-back : (k : Kind) → kindNamed (kindNumber k) ≡ k
+kind-back : (k : ParameterKind) → kindNamed (kindNumber k) ≡ k
 unfolding kindNamed
-kind-back K.OneInteger = refl
-kind-back K.TwoIntegers = refl
-kind-back K.ThreeIntegers = refl
-kind-back K.OnePoint = refl
-kind-back K.TwoPoints = refl
-kind-back K.AReal = refl
-kind-back K.AString = refl
-kind-back K.AnArray = refl
-kind-back K.IntegerThenArray = refl
-kind-back K.IntegerThenString = refl
-kind-back K.TwoCharacters = refl
+kind-back K.oneInteger = refl
+kind-back K.twoIntegers = refl
+kind-back K.threeIntegers = refl
+kind-back K.onePoint = refl
+kind-back K.twoPoints = refl
+kind-back K.aReal = refl
+kind-back K.aString = refl
+kind-back K.anArray = refl
+kind-back K.integerThenArray = refl
+kind-back K.integerThenString = refl
+kind-back K.twoCharacters = refl
 
-same-kind : (k j : Kind) → kindNumber k ≡ kindNumber j → k ≡ j
+same-kind : (k j : ParameterKind) → kindNumber k ≡ kindNumber j → k ≡ j
 same-kind k j e = sym (kind-back k) ∙ ap kindNamed e ∙ kind-back j
 
-letters-kind : (a b : ℕ) (ps : Parameters) → isKind a b ps ≡ true → kindOf a b ≡ Is (kindFor ps)
+letters-kind : (a b : ℕ) (ps : Parameters) → isKind a b ps ≡ true → kindOf a b ≡ inTable (kindFor ps)
 unfolding isKind
 letters-kind a b ps = by (kindOf a b)
   where
-    by : (f : Found) → sameKind f (kindFor ps) ≡ true → f ≡ Is (kindFor ps)
-    by (Is k) e = ap Is (same-kind k (kindFor ps) (eqb-true (kindNumber k) (kindNumber (kindFor ps)) e))
-    by NoKind e = let z : _≡_ {A = ℕ} 0 1 = cc in absurd (zero-one z)
+    by : (f : Tabled) → sameKind f (kindFor ps) ≡ true → f ≡ inTable (kindFor ps)
+    by (inTable k) e = ap inTable (same-kind k (kindFor ps) (eqb-true (kindNumber k) (kindNumber (kindFor ps)) e))
+    by notInTable e = let z : _≡_ {A = ℕ} 0 1 = cc in absurd (zero-one z)
 
 -- letters that a command has begin one
-found-begins : (rows : List TableRow) (a b : ℕ) {k : Kind} → kindIn rows a b ≡ Is k → beginsIn rows a ≡ true
+found-begins : (rows : List TableRow) (a b : ℕ) {k : ParameterKind} → kindIn rows a b ≡ inTable k → beginsIn rows a ≡ true
 found-begins [] a b e = let z : _≡_ {A = ℕ} 0 1 = cc in absurd (zero-one z)
 found-begins (r ∷ rs) a b {k} e = by (eqb a (r .first)) (eqb b (r .second)) (λ g. found-begins rs a b g) e
   where
-    by : (t u : Bool) → (kindIn rs a b ≡ Is k → beginsIn rs a ≡ true) → pick (t && u) (Is (r .kind)) (kindIn rs a b) ≡ Is k → t || beginsIn rs a ≡ true
+    by : (t u : Bool) → (kindIn rs a b ≡ inTable k → beginsIn rs a ≡ true) → pick (t && u) (inTable (r .kind)) (kindIn rs a b) ≡ inTable k → t || beginsIn rs a ≡ true
     by true u next e = refl
     by false u next e = next e
 
@@ -213,7 +208,7 @@ and-false : (b : Bool) → b && false ≡ false
 and-false true = refl
 and-false false = refl
 
-no-escape : (a : ℕ) → kindOf a 27 ≡ NoKind
+no-escape : (a : ℕ) → kindOf a 27 ≡ notInTable
 unfolding kindOf
 no-escape a = simp and-false
 
@@ -232,7 +227,7 @@ module _ (kept : Remembered) (c : Command) (es : List ℤ) (ok : isCommand kept 
   unfolding isCommand fits
   kind-ok = and-left (isKind (c .first) (c .second) (c .parameters)) _ ok
 
-  found : kindOf (c .first) (c .second) ≡ Is (kindFor (c .parameters))
+  found : kindOf (c .first) (c .second) ≡ inTable (kindFor (c .parameters))
   found = letters-kind (c .first) (c .second) (c .parameters) kind-ok
 
   begun : begins (c .first) ≡ true

@@ -24,17 +24,12 @@ use Rattle.numbers.proofs.Shortest.{integer-shown, count-shown}
 use Rattle.points.specs.Reading.{pointAt}
 use Rattle.points.specs.Writing.{spellPoint}
 use Rattle.points.proofs.Shortest.{point-shown}
-use Rattle.table.specs.declared.Kind.{Kind}
-use Rattle.table.specs.declared.Kind.the-variants as K
-use Rattle.table.specs.declared.Found.{Found}
-use Rattle.table.specs.declared.Found.the-variants.{Is, NoKind}
-use Rattle.table.specs.Table.{kindOf, begins}
+use Rattle.table.specs.Table.{ParameterKind, Tabled, inTable, notInTable, kindOf, begins}
+use Rattle.table.specs.Table as K
 use Rattle.parameters.specs.declared.Entry.{Entry}
 use Rattle.parameters.specs.declared.Entry.the-variants.{AnInteger, ACharacter}
 use Rattle.parameters.specs.Entries.{entryAt, asEntry, entryValues, CountedRun, runAt}
-use Rattle.parameters.specs.declared.Tail.{Tail}
-use Rattle.parameters.specs.declared.Tail.the-variants.{NoList, ListOf}
-use Rattle.parameters.specs.Shapes.{Part, single, real, point, Shape, Value, number, scaled, place, shapeOf, valuesOf, tailOf}
+use Rattle.parameters.specs.Shapes.{Tailed, noList, listOf, Part, single, real, point, Shape, Value, number, scaled, place, shapeOf, valuesOf, tailOf}
 use Rattle.parameters.specs.Looking.{TwoEntries, twoEntriesAt, Fixed, partAt, fixedAt, tailAt, Parsed, parametersAt, entryIn, parsedEntries}
 use Rattle.commands.specs.declared.Command.{Command}
 use Rattle.commands.specs.Reading.{letterAt, Letters, completed, secondAt, headAt, Meaning, meaning, bodyAt, commandAt}
@@ -219,43 +214,43 @@ fixed-good kept (p ∷ ps) s at h =
 
 -- ---- the list behind them
 
-abbrev entriesHeld : Remembered → Tail → List ℕ → CountedRun → List ℤ
+abbrev entriesHeld : Remembered → Tailed → List ℕ → CountedRun → List ℤ
 entriesHeld kept t s h = entryValues (entryIn t) kept (h .count) s (h .start)
 
-pub record TailShown (kept : Remembered) (t : Tail) (s : List ℕ) (at : ℕ) (h : CountedRun) : Type 0 where
+pub record TailShown (kept : Remembered) (t : Tailed) (s : List ℕ) (at : ℕ) (h : CountedRun) : Type 0 where
   pub writable : isTail t (entriesHeld kept t s h) ≡ true
   pub number-is : length (entriesHeld kept t s h) ≡ h .count
   pub shortest : at + length (spellTail kept t (entriesHeld kept t s h)) ≤ h .next
   pub forward : at ≤ h .next
   pub within : h .next ≤ length s
 
-tail-good : (kept : Remembered) (t : Tail) (s : List ℕ) (at : ℕ) → at ≤ length s → Done (TailShown kept t s at) (tailAt kept t s at)
+tail-good : (kept : Remembered) (t : Tailed) (s : List ℕ) (at : ℕ) → at ≤ length s → Done (TailShown kept t s at) (tailAt kept t s at)
 unfolding tailAt runAt isTail spellTail allAfter
-tail-good kept NoList s at h =
-    is-done (TailShown kept NoList s at) (record { writable = refl; number-is = refl; shortest = omega arith; forward = omega arith; within = h })
-tail-good kept (ListOf e) s at h =
-    by-then (Done (TailShown kept (ListOf e) s at)) (countAt kept s at) _
+tail-good kept noList s at h =
+    is-done (TailShown kept noList s at) (record { writable = refl; number-is = refl; shortest = omega arith; forward = omega arith; within = h })
+tail-good kept (listOf e) s at h =
+    by-then (Done (TailShown kept (listOf e) s at)) (countAt kept s at) _
     (λ c g.
     let f = count-shown kept s at g in
-    by-then (Done (TailShown kept (ListOf e) s at)) (endsAfter (entryAt e kept s) (c .value) (c .next)) _
+    by-then (Done (TailShown kept (listOf e) s at)) (endsAfter (entryAt e kept s) (c .value) (c .next)) _
     (λ n q.
     let r = done-of (RunShown e kept s (c .value) (c .next)) (run-good e kept s (c .value) (c .next) (f .within)) q in
     let es = allAfter (entryAt e kept s) (c .value) (c .next) in
     let w = sent kept (spell (pos (c .value))) in
-    is-done (TailShown kept (ListOf e) s at) (record {
+    is-done (TailShown kept (listOf e) s at) (record {
       writable = rw (r .number-is, le-leb (c .value) 256 (f .writable)) (r .writable);
       number-is = r .number-is;
       shortest = rw (r .number-is) (omega (arith, f .shortest, r .shortest, length-append w (spellEntries e kept es)));
       forward = omega (arith, f .shortest, r .shortest);
       within = r .within;
     }))
-    (λ x p q. not-done (TailShown kept (ListOf e) s at) x p))
-    (λ x p g. not-done (TailShown kept (ListOf e) s at) x p)
+    (λ x p q. not-done (TailShown kept (listOf e) s at) x p))
+    (λ x p g. not-done (TailShown kept (listOf e) s at) x p)
 
 -- ---- the letters
 
 pub record HeadShown (s : List ℕ) (at : ℕ) (h : Letters) : Type 0 where
-  pub known : kindOf (h .first) (h .second) ≡ Is (h .kind)
+  pub known : kindOf (h .first) (h .second) ≡ inTable (h .kind)
   pub room : at + 2 ≤ length s
 
 pub letter-good : (s : List ℕ) (at : ℕ) → Done (λ (b : ℕ). at < length s) (letterAt s at)
@@ -267,9 +262,9 @@ letter-good s at =
     (λ u. is-done (λ (b : ℕ). at < length s) (ltb-true at (length s) t)))
     (λ t. not-done (λ (b : ℕ). at < length s) 1 (length s))
 
-completed-good : (s : List ℕ) (at a b p : ℕ) (f : Found) → kindOf a b ≡ f → at + 2 ≤ length s → Done (HeadShown s at) (completed a b p f)
-completed-good s at a b p (Is k) e h = is-done (HeadShown s at) (record { known = e; room = h })
-completed-good s at a b p NoKind e h = not-done (HeadShown s at) 2 p
+completed-good : (s : List ℕ) (at a b p : ℕ) (f : Tabled) → kindOf a b ≡ f → at + 2 ≤ length s → Done (HeadShown s at) (completed a b p f)
+completed-good s at a b p (inTable k) e h = is-done (HeadShown s at) (record { known = e; room = h })
+completed-good s at a b p notInTable e h = not-done (HeadShown s at) 2 p
 
 pub head-good : (s : List ℕ) (at : ℕ) → Done (HeadShown s at) (headAt s at)
 unfolding headAt secondAt
@@ -286,8 +281,8 @@ head-good s at =
 -- ---- the whole command
 
 pub record Shown (kept : Remembered) (s : List ℕ) (start : ℕ) (m : Meaning) : Type 0 where
-  pub kind : Kind
-  pub known : kindOf (m .first) (m .second) ≡ Is kind
+  pub kind : ParameterKind
+  pub known : kindOf (m .first) (m .second) ≡ inTable kind
   pub shape-is : shapeOf kind ≡ record { fixed = map partOf (m .values); tail = m .tail }
   pub values-ok : areValues (m .values) ≡ true
   pub tail-ok : isTail (m .tail) (m .entries) ≡ true
@@ -297,7 +292,7 @@ pub record Shown (kept : Remembered) (s : List ℕ) (start : ℕ) (m : Meaning) 
   pub forward : start < m .next
   pub within : m .next ≤ length s
 
-module _ (kept : Remembered) (k : Kind) (s : List ℕ) (start : ℕ) (room : start + 3 ≤ length s) where
+module _ (kept : Remembered) (k : ParameterKind) (s : List ℕ) (start : ℕ) (room : start + 3 ≤ length s) where
   record ParsedShown (p : Parsed) : Type 0 where
     shape-ok : shapeOf k ≡ record { fixed = map partOf (p .values); tail = p .tail }
     values-good : areValues (p .values) ≡ true
@@ -380,44 +375,44 @@ codes : List Part → ℕ
 codes [] = 0
 codes (p ∷ ps) = partCode p + 5 * codes ps
 
-tailCode : Tail → ℕ
-tailCode NoList = 0
-tailCode (ListOf AnInteger) = 1
-tailCode (ListOf ACharacter) = 2
+tailCode : Tailed → ℕ
+tailCode noList = 0
+tailCode (listOf AnInteger) = 1
+tailCode (listOf ACharacter) = 2
 
 -- a number for each shape, by which kinds of different shapes are told apart
 shapeCode : Shape → ℕ
 shapeCode h = codes (h .fixed) * 3 + tailCode (h .tail)
 
-kindCoded : ℕ → Kind
+kindCoded : ℕ → ParameterKind
 kindCoded n =
-    pick (eqb n 3) K.OneInteger
-    (pick (eqb n 18) K.TwoIntegers
-    (pick (eqb n 93) K.ThreeIntegers
-    (pick (eqb n 12) K.OnePoint
-    (pick (eqb n 72) K.TwoPoints
-    (pick (eqb n 9) K.AReal
-    (pick (eqb n 2) K.AString
-    (pick (eqb n 1) K.AnArray
-    (pick (eqb n 4) K.IntegerThenArray
-    (pick (eqb n 5) K.IntegerThenString
-    K.TwoCharacters)))))))))
+    pick (eqb n 3) K.oneInteger
+    (pick (eqb n 18) K.twoIntegers
+    (pick (eqb n 93) K.threeIntegers
+    (pick (eqb n 12) K.onePoint
+    (pick (eqb n 72) K.twoPoints
+    (pick (eqb n 9) K.aReal
+    (pick (eqb n 2) K.aString
+    (pick (eqb n 1) K.anArray
+    (pick (eqb n 4) K.integerThenArray
+    (pick (eqb n 5) K.integerThenString
+    K.twoCharacters)))))))))
 
-coded : (k : Kind) → kindCoded (shapeCode (shapeOf k)) ≡ k
+coded : (k : ParameterKind) → kindCoded (shapeCode (shapeOf k)) ≡ k
 unfolding kindCoded shapeCode codes tailCode partCode
-coded K.OneInteger = refl
-coded K.TwoIntegers = refl
-coded K.ThreeIntegers = refl
-coded K.OnePoint = refl
-coded K.TwoPoints = refl
-coded K.AReal = refl
-coded K.AString = refl
-coded K.AnArray = refl
-coded K.IntegerThenArray = refl
-coded K.IntegerThenString = refl
-coded K.TwoCharacters = refl
+coded K.oneInteger = refl
+coded K.twoIntegers = refl
+coded K.threeIntegers = refl
+coded K.onePoint = refl
+coded K.twoPoints = refl
+coded K.aReal = refl
+coded K.aString = refl
+coded K.anArray = refl
+coded K.integerThenArray = refl
+coded K.integerThenString = refl
+coded K.twoCharacters = refl
 
-same-shape : (k j : Kind) → shapeOf k ≡ shapeOf j → k ≡ j
+same-shape : (k j : ParameterKind) → shapeOf k ≡ shapeOf j → k ≡ j
 same-shape k j e = sym (coded k) ∙ ap (λ (h : Shape). kindCoded (shapeCode h)) e ∙ coded j
 
 pub read-writable : (kept : Remembered) (s : List ℕ) (start room : ℕ) (c : Command) {m : Meaning} → inside (kept .point) ≡ true → commandAt kept s start room ≡ done m → SaysSo c m → isCommand kept c (m .entries) ≡ true
@@ -428,7 +423,7 @@ read-writable kept s start room c {m} i e q =
     let y : _≡_ {A = Shape} (record { fixed = map partOf (valuesOf ps); tail = tailOf ps }) (record { fixed = map partOf (m .values); tail = m .tail }) = rw (q .values-are, q .tail-is) in
     let z : shapeOf (kindFor ps) ≡ shapeOf (f .kind) = shape-is ps ∙ y ∙ sym (f .shape-is) in
     let k : kindFor ps ≡ f .kind = same-shape (kindFor ps) (f .kind) z in
-    let n : kindOf (c .first) (c .second) ≡ Is (kindFor ps) = rw (q .first-is, q .second-is) (f .known ∙ ap Is (sym k)) in
+    let n : kindOf (c .first) (c .second) ≡ inTable (kindFor ps) = rw (q .first-is, q .second-is) (f .known ∙ ap inTable (sym k)) in
     rw (n, eq-eqb (kindNumber (kindFor ps)) (kindNumber (kindFor ps)) refl, i, q .values-are, q .tail-is, f .values-ok) (f .tail-ok)
 
 -- no byte string that reads as that command from that point is shorter

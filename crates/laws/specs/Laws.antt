@@ -9,9 +9,7 @@ use lib.IntN.{ℤ}
 use Rattle.memory.specs.declared.Remembered.{Remembered}
 use Rattle.refusals.specs.Answers.{done}
 use Rattle.wire.specs.Sending.{afterWrite}
-use Rattle.parameters.specs.declared.Tail.{Tail}
-use Rattle.parameters.specs.declared.Tail.the-variants.{NoList, ListOf}
-use Rattle.parameters.specs.Shapes.{valuesOf, tailOf}
+use Rattle.parameters.specs.Shapes.{Tailed, noList, listOf, valuesOf, tailOf}
 use Rattle.commands.specs.declared.Command.{Command}
 use Rattle.commands.specs.Reading.{Meaning}
 use Rattle.writing.specs.Writing.{afterValues, spellCommand}
@@ -20,9 +18,9 @@ use Rattle.stream.specs.Items.{Itemed, nothing, text, command, refusedCommand, 
 -- ---- the round trip
 
 -- the entries that go with a tail
-abbrev pub carried : Tail → List ℤ → List ℤ
-carried NoList es = []
-carried (ListOf e) es = es
+abbrev pub carried : Tailed → List ℤ → List ℤ
+carried noList es = []
+carried (listOf e) es = es
 
 -- the item that starts at start, read in so much room, is the command c with its entries es, and takes n bytes
 pub record Back (kept : Remembered) (c : Command) (es : List ℤ) (n : ℕ) (s : List ℕ) (start room : ℕ) : Type 0 where

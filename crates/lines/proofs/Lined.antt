@@ -16,7 +16,7 @@ use Rattle.parameters.specs.declared.Entry.{Entry}
 use Rattle.parameters.specs.declared.Numbers.{Numbers}
 use Rattle.parameters.specs.declared.Tail.{Tail}
 use Rattle.parameters.specs.declared.Tail.the-variants.{NoList, ListOf}
-use Rattle.parameters.specs.Shapes.{Value, valuesOf, tailOf}
+use Rattle.parameters.specs.Shapes.{Tailed, tailMeant, Value, valuesOf, tailOf}
 use Rattle.parameters.specs.Numbers.{numbersOf, Holds}
 use Rattle.commands.specs.declared.TakenCommand.{TakenCommand}
 use Rattle.commands.specs.Reading.{tellTaken}
@@ -48,11 +48,11 @@ first-of k list =
     (λ e. take-all (min k (length list)) list (omega arith) ∙ sym (take-all k list (omega arith)))
     (eq-zero-or-pos (k - length list))
 
-pub list-poured : (t : Tail) (k : ℕ) (list : List ℤ) {m : ℕ} {l h o : List ℕ} {at j n : ℕ} {u : Tail} {e : Entry} → u ≡ t → u ≡ ListOf e → m ≡ min k (length list) → Put h j (fields (take m list)) n o → Put l at (field (pos k)) j h → Put l at (listed t k list) n o
+pub list-poured : (t : Tailed) (k : ℕ) (list : List ℤ) {m : ℕ} {l h o : List ℕ} {at j n : ℕ} {u : Tail} {e : Entry} → tailMeant u ≡ t → u ≡ ListOf e → m ≡ min k (length list) → Put h j (fields (take m list)) n o → Put l at (field (pos k)) j h → Put l at (listed t k list) n o
 unfolding listed
 list-poured t k list e f d q p = rw (← e, f, ← first-of k list, ← d) (poured-both q p)
 
-pub no-list : (t : Tail) (k : ℕ) (list : List ℤ) {u : Tail} (l : List ℕ) (at : ℕ) → u ≡ t → u ≡ NoList → length l * 1 < 2 ^ 63 → Put l at (listed t k list) at l
+pub no-list : (t : Tailed) (k : ℕ) (list : List ℤ) {u : Tail} (l : List ℕ) (at : ℕ) → tailMeant u ≡ t → u ≡ NoList → length l * 1 < 2 ^ 63 → Put l at (listed t k list) at l
 unfolding listed
 no-list t k list l at e f h = rw (← e, f) (poured-none l at h)
 

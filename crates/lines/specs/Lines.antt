@@ -5,18 +5,16 @@ use mathlib.Core.Bool.{Bool, true, false}
 use mathlib.Core.List.{List, [], _∷_, _++_}
 use lib.ListN.{take}
 use lib.IntN.{ℤ, pos}
-use Rattle.parameters.specs.declared.Tail.{Tail}
-use Rattle.parameters.specs.declared.Tail.the-variants.{NoList, ListOf}
-use Rattle.parameters.specs.Shapes.{Value}
+use Rattle.parameters.specs.Shapes.{Tailed, noList, listOf, Value}
 use Rattle.parameters.specs.Numbers.{numbersOf}
 use Rattle.commands.specs.Reading.{ToldCommand}
 use Rattle.stream.specs.Items.{Itemed, nothing, text, command, refusedCommand, refusedCall}
 use Rattle.lines.specs.Decimals.{field, fields}
 
 -- the count and the entries, where the parameters have any
-unfoldable pub listed : Tail → ℕ → List ℤ → List ℕ
-listed NoList k list = []
-listed (ListOf e) k list = field (pos k) ++ fields (take k list)
+unfoldable pub listed : Tailed → ℕ → List ℤ → List ℕ
+listed noList k list = []
+listed (listOf e) k list = field (pos k) ++ fields (take k list)
 
 abbrev newline : List ℕ
 newline = 10 ∷ []
@@ -34,7 +32,7 @@ letters a b = (32 ∷ []) ++ (a ∷ []) ++ (b ∷ [])
 unfoldable pub commandHead : (start first second : ℕ) → List ℕ
 commandHead start a b = opening 67 start ++ letters a b
 
-unfoldable pub parametersWords : List Value → Tail → ℕ → List ℤ → List ℕ
+unfoldable pub parametersWords : List Value → Tailed → ℕ → List ℤ → List ℕ
 parametersWords vs t k list = fields (numbersOf vs) ++ listed t k list
 
 unfoldable pub commandLine : ToldCommand → ℕ → List ℤ → List ℕ

@@ -18,13 +18,11 @@ use Rattle.refusals.proofs.Many.{every-split}
 use Rattle.signs.specs.Signs.{isNegative, mostMagnitude}
 use Rattle.wire.specs.Sending.{sent, roomFor, writeAt}
 use Rattle.numbers.specs.Integers.{highsOf, lowOf, spellOf}
-use Rattle.table.specs.declared.Kind.{Kind}
-use Rattle.table.specs.declared.Kind.the-variants as K
+use Rattle.table.specs.Table.{ParameterKind}
+use Rattle.table.specs.Table as K
 use Rattle.parameters.specs.declared.Entry.{Entry}
 use Rattle.parameters.specs.declared.Entry.the-variants.{AnInteger, ACharacter}
-use Rattle.parameters.specs.declared.Tail.{Tail}
-use Rattle.parameters.specs.declared.Tail.the-variants.{NoList, ListOf}
-use Rattle.parameters.specs.Shapes.{Part, single, real, point, Shape, shapeOf, Value, number, scaled, place}
+use Rattle.parameters.specs.Shapes.{Tailed, noList, listOf, Part, single, real, point, Shape, shapeOf, Value, number, scaled, place}
 use Rattle.parameters.specs.Numbers.{numbersOf}
 use Rattle.commands.specs.Reading.{Meaning, tell, commandAt}
 use Rattle.writable.specs.Writable.{isEntry, areEntries, isValue, areValues, isTail}
@@ -107,19 +105,19 @@ sizes : List Part → ℕ
 sizes [] = 0
 sizes (p ∷ ps) = size p + sizes ps
 
-kind-few : (k : Kind) → sizes (shapeOf k .fixed) ≤ 4
+kind-few : (k : ParameterKind) → sizes (shapeOf k .fixed) ≤ 4
 unfolding sizes size
-kind-few K.OneInteger = omega arith
-kind-few K.TwoIntegers = omega arith
-kind-few K.ThreeIntegers = omega arith
-kind-few K.OnePoint = omega arith
-kind-few K.TwoPoints = omega arith
-kind-few K.AReal = omega arith
-kind-few K.AString = omega arith
-kind-few K.AnArray = omega arith
-kind-few K.IntegerThenArray = omega arith
-kind-few K.IntegerThenString = omega arith
-kind-few K.TwoCharacters = omega arith
+kind-few K.oneInteger = omega arith
+kind-few K.twoIntegers = omega arith
+kind-few K.threeIntegers = omega arith
+kind-few K.onePoint = omega arith
+kind-few K.twoPoints = omega arith
+kind-few K.aReal = omega arith
+kind-few K.aString = omega arith
+kind-few K.anArray = omega arith
+kind-few K.integerThenArray = omega arith
+kind-few K.integerThenString = omega arith
+kind-few K.twoCharacters = omega arith
 
 two-few : (a b : ℤ) (w : List ℕ) → length (field a) ≤ 7 → length (field b) ≤ 7 → length (field a ++ (field b ++ w)) ≤ 14 + length w
 two-few a b w h g = omega (arith, h, g, length-append (field a) (field b ++ w), length-append (field b) w)
@@ -156,10 +154,10 @@ entries-some e kept [] = omega arith
 entries-some e kept (v ∷ vs) =
     omega (arith, entry-some e kept v, entries-some e kept vs, length-append (spellEntry e kept v) (spellEntries e kept vs))
 
-list-few : (t : Tail) (k : ℕ) (es : List ℤ) (kept : Remembered) → k ≡ length es → isTail t es ≡ true → length (listed t k es) ≤ 4 + 7 * length (spellTail kept t es)
+list-few : (t : Tailed) (k : ℕ) (es : List ℤ) (kept : Remembered) → k ≡ length es → isTail t es ≡ true → length (listed t k es) ≤ 4 + 7 * length (spellTail kept t es)
 unfolding listed spellTail isTail
-list-few NoList k es kept e h = omega arith
-list-few (ListOf x) k es kept e h =
+list-few noList k es kept e h = omega arith
+list-few (listOf x) k es kept e h =
     let most : length es ≤ 256 = leb-true (length es) 256 (and-left (leb (length es) 256) (areEntries x es) h) in
     let count = natural-few 1000 3 k three (omega (arith, e, most)) in
     let all : take k es ≡ es = take-all k es (omega (arith, e)) in

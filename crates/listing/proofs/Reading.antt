@@ -13,9 +13,7 @@ use Rattle.memory.specs.declared.Remembered.{Remembered}
 use Rattle.memory.specs.Memory.{inside}
 use Rattle.refusals.specs.Answers.{Answer, done, refused}
 use Rattle.refusals.proofs.Cases.{by-pick, by-then, Done, done-of, is-done, not-done}
-use Rattle.parameters.specs.declared.Tail.{Tail}
-use Rattle.parameters.specs.declared.Tail.the-variants.{NoList, ListOf}
-use Rattle.parameters.specs.Shapes.{shapeOf}
+use Rattle.parameters.specs.Shapes.{Tailed, noList, listOf, shapeOf}
 use Rattle.parameters.specs.Looking.{parametersAt}
 use Rattle.commands.specs.Reading.{Meaning, headAt, bodyAt, commandAt}
 use Rattle.stream.specs.Items.{Itemed, nothing, text, command, refusedCommand, refusedCall, asItem, commandItem, itemAt, toldItem, afterItem}
@@ -70,10 +68,10 @@ front-same k es list e h =
     ∙ take-at es (drop (0 + length es) list) k (sym e)
     ∙ sym (take-all k es (omega (arith, e)))
 
-listed-same : (t : Tail) (k : ℕ) (es list : List ℤ) → k ≡ length es → k ≤ length list → listed t k (sets list 0 es) ≡ listed t k es
+listed-same : (t : Tailed) (k : ℕ) (es list : List ℤ) → k ≡ length es → k ≤ length list → listed t k (sets list 0 es) ≡ listed t k es
 unfolding listed
-listed-same NoList k es list e h = refl
-listed-same (ListOf x) k es list e h = ap (λ (l : List ℤ). field (pos k) ++ fields l) (front-same k es list e h)
+listed-same noList k es list e h = refl
+listed-same (listOf x) k es list e h = ap (λ (l : List ℤ). field (pos k) ++ fields l) (front-same k es list e h)
 
 pub line-read : (list : List ℤ) (start : ℕ) (i : Itemed Meaning) → Held (length list) i → lineOf (toldItem i) start (afterItem i list) ≡ lineOf (toldItem i) start (entriesOf i)
 unfolding Held lineOf toldItem afterItem entriesOf commandLine parametersWords

@@ -1,4 +1,5 @@
--- Two conforming answers of a call that looks into stores coincide. What is_well_formed and look_up give is fixed as it stands.
+-- Two conforming answers of a call that looks into stores coincide. What is_well_formed gives is fixed as it stands; of what look_up and
+-- look_by_headers give, where it points and the bytes are.
 use Prim.Native.Nat.{ℕ}
 use mathlib.Core.Path.{_≡_, refl, sym, _∙_, ap}
 use mathlib.Core.List.{List}

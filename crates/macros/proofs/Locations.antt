@@ -12,7 +12,7 @@ use lib.Seq.{drop-drop}
 use lib.IntN.{ℤ, natAbs}
 use Rattle.refusals.proofs.Cases.{by-pick}
 use Rattle.refusals.proofs.Numbers.{met}
-use Rattle.macros.specs.Store.{Entry, Layout, sizeOf, bodyIn, isStoreEntry, frontEntries, entries, wellFormed, keep, below, isMacroNumber, bodyOf, orElse, bodyInEither, lookRefusal, findRefusal, lookedUp, Placed, placed, storeNamed, entrySize}
+use Rattle.macros.specs.Store.{Entry, Layout, sizeOf, bodyIn, isStoreEntry, frontEntries, entries, wellFormed, keep, below, isMacroNumber, bodyOf, orElse, bodyInEither, lookRefusal, findRefusal, lookedUp, Placed, placed, storeNamed, bytesPlaced, entrySize}
 use Rattle.macros.proofs.Layouts.{Lawful}
 use Rattle.macros.proofs.Reading.{stands, body-long, entryIn, behind, size-cons, size-nil, keep-yes, keep-no, keep-nil}
 
@@ -28,7 +28,7 @@ another n e es h = simp (ne-eqb (e .number) n h)
 
 -- entries from a number on have none below it
 module _ (L : Layout) (n : ℕ) where
-  none-low : (k least : ℕ) (d : List ℕ) → n ≤ least → below n (frontEntries L k least d) ≡ []
+  pub none-low : (k least : ℕ) (d : List ℕ) → n ≤ least → below n (frontEntries L k least d) ≡ []
   unfolding frontEntries keep
   none-low zero least d h = refl
   none-low (suc k) least d h =
@@ -162,11 +162,11 @@ module _ (L : Layout) (v s : List ℕ) (n : ℤ) where
   unfolding lookedUp bodyInEither
   looked-some t = rw t
 
-  looked-none : eqb (findRefusal L v s n) 0 ≡ false → lookedUp L v s n ≡ []
+  pub looked-none : eqb (findRefusal L v s n) 0 ≡ false → lookedUp L v s n ≡ []
   unfolding lookedUp
   looked-none t = rw t
 
-  there-is : eqb (findRefusal L v s n) 0 ≡ true → leb 1 (length (bodyInEither L v s (natAbs n))) ≡ true
+  pub there-is : eqb (findRefusal L v s n) 0 ≡ true → leb 1 (length (bodyInEither L v s (natAbs n))) ≡ true
   unfolding findRefusal lookRefusal
   there-is t =
       let a = met (wellFormed L v && wellFormed L s) 12 _ (λ q. omega (arith, q)) (eqb-true (findRefusal L v s n) 0 t) in
@@ -175,12 +175,12 @@ module _ (L : Layout) (v s : List ℕ) (n : ℤ) where
 
   module _ (lawful : Lawful L) where
     -- the part of the store that is named
-    pub located-part : take (placed L v s n .long) (drop (placed L v s n .offset) (storeNamed (placed L v s n) v s)) ≡ lookedUp L v s n
+    pub located-part : bytesPlaced (placed L v s n) v s ≡ lookedUp L v s n
     unfolding placed
     located-part =
-        by-pick (λ (x : Placed). take (x .long) (drop (x .offset) (storeNamed x v s)) ≡ lookedUp L v s n) (eqb (findRefusal L v s n) 0) _ _
+        by-pick (λ (x : Placed). bytesPlaced x v s ≡ lookedUp L v s n) (eqb (findRefusal L v s n) 0) _ _
         (λ t.
-        by-pick (λ (x : Placed). take (x .long) (drop (x .offset) (storeNamed x v s)) ≡ lookedUp L v s n) (leb 1 (length (bodyOf (natAbs n) (entries L v)))) _ _
+        by-pick (λ (x : Placed). bytesPlaced x v s ≡ lookedUp L v s n) (leb 1 (length (bodyOf (natAbs n) (entries L v)))) _ _
         (λ u. stand L lawful (natAbs n) v .there ∙ sym (looked-some t ∙ either-first (bodyOf (natAbs n) (entries L v)) _ u))
         (λ u. stand L lawful (natAbs n) s .there ∙ sym (looked-some t ∙ either-second (bodyOf (natAbs n) (entries L v)) _ u)))
         (λ t. sym (looked-none t))

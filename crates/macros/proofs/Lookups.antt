@@ -3,6 +3,7 @@ use Prim.Native.Nat.{ℕ, _+_, _-_, _^_, _≤_, _<_}
 use mathlib.Core.Path.{_≡_, refl, sym, _∙_, ap, subst}
 use mathlib.Core.Bool.{Bool, true, false, not, _&&_}
 use mathlib.Core.List.{List, []}
+use native.Mathlib.Nat.{zero-add}
 use native.Mathlib.Omega.{arith}
 use borrow.Author.Tests.{not-true, not-false, le-leb, leb-true}
 use lib.Arith.{lt-of-le-ne}
@@ -25,7 +26,7 @@ use Rattle.macros.specs.declared.Part.{Part}
 use Rattle.macros.specs.declared.Place.{Place}
 use Rattle.macros.specs.declared.Place.the-variants as Place
 use Rattle.macros.specs.declared.Finding.the-variants as Finding
-use Rattle.macros.specs.Store.{Layout, sizeOf, below, entries, wellFormed, isMacroNumber, bodyOf, bodyInEither, lookRefusal, findRefusal, lookedUp, findingOf, Placed, placed, storeNamed, bodyPlaceOf, entrySize}
+use Rattle.macros.specs.Store.{Layout, sizeOf, below, entries, wellFormed, isMacroNumber, bodyOf, bodyInEither, lookRefusal, findRefusal, lookedUp, findingOf, Placed, placed, storeNamed, bytesPlaced, bodyPointer, bodyPlaceOf, entrySize}
 use Rattle.macros.specs.Fronts.{GapIs, FormedIs, SurveyIs}
 use Rattle.macros.proofs.Layouts.{Lawful, three-size, three-lawful}
 use Rattle.macros.proofs.Reading.{room-none, room-some}
@@ -158,8 +159,8 @@ module _ (L : Layout) (v s : List ℕ) (n : ℤ) (f : SFits w32 n) (r : Place) (
   number-said : {q : Place} → r ≡ q → bodyPlaceOf q .number ≡ findRefusal L v s n
   number-said e = ap (λ (x : Placed). x .number) (sym (says e)) ∙ placed-number L v s n
 
-  part-said : Lawful L → {q : Place} → r ≡ q → take (bodyPlaceOf q .long) (drop (bodyPlaceOf q .offset) (storeNamed (bodyPlaceOf q) v s)) ≡ lookedUp L v s n
-  part-said lawful e = subst (λ (x : Placed). take (x .long) (drop (x .offset) (storeNamed x v s)) ≡ lookedUp L v s n) (says e) (located-part L v s n lawful)
+  part-said : Lawful L → {q : Place} → r ≡ q → bytesPlaced (bodyPlaceOf q) v s ≡ lookedUp L v s n
+  part-said lawful e = subst (λ (x : Placed). bytesPlaced x v s ≡ lookedUp L v s n) (says e) (located-part L v s n lawful)
 
   inside-said : Lawful L → {q : Place} → r ≡ q → bodyPlaceOf q .offset + bodyPlaceOf q .long ≤ length (storeNamed (bodyPlaceOf q) v s)
   inside-said lawful e = subst (λ (x : Placed). x .offset + x .long ≤ length (storeNamed x v s)) (says e) (located-inside L v s n lawful)
@@ -196,6 +197,23 @@ module _ (L : Layout) (v s : List ℕ) (n : ℤ) (f : SFits w32 n) (r : Place) (
       unfolding bodyPlaceOf
       saved-part e = let l : p .offset + p .long - p .offset ≡ p .long = omega arith in rw l (part-said lawful e)
 
+  -- where the part points, by where the stores' references point
+  module _ (pv ps : ℕ × ℕ) where
+    pointer-said : {q : Place} → r ≡ q → bodyPointer (bodyPlaceOf q) pv ps ≡ bodyPointer (placed L v s n) pv ps
+    pointer-said e = ap (λ (x : Placed). bodyPointer x pv ps) (sym (says e))
+
+    pub volatile-pointer : {p : Part} → r ≡ Place.InVolatile p → (pv .0, p .offset + pv .1) ≡ bodyPointer (placed L v s n) pv ps
+    unfolding bodyPlaceOf bodyPointer
+    volatile-pointer e = pointer-said e
+
+    pub saved-pointer : {p : Part} → r ≡ Place.InSaved p → (ps .0, p .offset + ps .1) ≡ bodyPointer (placed L v s n) pv ps
+    unfolding bodyPlaceOf bodyPointer
+    saved-pointer e = pointer-said e
+
+    pub empty-pointer : {e : Refusal} → r ≡ Place.Refused e → ps ≡ bodyPointer (placed L v s n) pv ps
+    unfolding bodyPlaceOf bodyPointer
+    empty-pointer e = ap (λ (k : ℕ). (ps .0, k)) (sym (zero-add (ps .1))) ∙ pointer-said e
+
   module _ {e : Refusal} (g : r ≡ Place.Refused e) where
     pub not-found : findingOf (Finding.Refused e) ≡ findRefusal L v s n
     unfolding findingOf bodyPlaceOf
@@ -205,4 +223,4 @@ module _ (L : Layout) (v s : List ℕ) (n : ℤ) (f : SFits w32 n) (r : Place) (
     unfolding bodyPlaceOf
     empty-part lawful = part-said lawful g
 
-pub ruleset findings = (three-lawful, volatile-found, saved-found, volatile-inside, saved-inside, volatile-ends, saved-ends, volatile-part, saved-part, not-found, empty-part)
+pub ruleset findings = (three-lawful, volatile-found, saved-found, volatile-inside, saved-inside, volatile-ends, saved-ends, volatile-part, saved-part, volatile-pointer, saved-pointer, empty-pointer, not-found, empty-part)

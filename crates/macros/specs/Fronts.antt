@@ -4,10 +4,12 @@ use mathlib.Core.Path.{_≡_}
 use mathlib.Core.Bool.{Bool, true, false}
 use mathlib.Core.List.{List}
 use lib.Dec.{ltb}
-use lib.ListN.{length, getD, drop}
+use lib.ListN.{length, getD, take, drop}
+use denote.Ref.{RefT, ptr, now}
 use Rattle.refusals.specs.Answers.{pick}
 use Rattle.macros.specs.declared.Front.{Front}
 use Rattle.macros.specs.declared.Front.the-variants.{Here, NoEntry}
+use Rattle.macros.specs.declared.Part.{Part}
 use Rattle.macros.specs.declared.Gap.{Gap}
 use Rattle.macros.specs.declared.Survey.{Survey}
 use Rattle.macros.specs.declared.Survey.the-variants.{Formed, Malformed}
@@ -59,3 +61,11 @@ pub record FormedIs (L : Layout) (s : List ℕ) (number : ℕ) (g : Gap) : Type 
 unfoldable pub SurveyIs : Layout → List ℕ → (number : ℕ) → Survey → Type 0
 SurveyIs L s number (Formed g) = FormedIs L s number g
 SurveyIs L s number Malformed = wellFormed L s ≡ false
+
+-- ---- a part of a store, handed back
+
+-- r refers to so many bytes of the store from so many on
+pub record HandsPart (store : RefT (List ℕ)) (p : Part) (r : RefT (List ℕ)) : Type 0 where
+  pub bytes : now r ≡ take (p .long) (drop (p .offset) (now store))
+  pub block : ptr r .0 ≡ ptr store .0
+  pub place : ptr r .1 ≡ p .offset + ptr store .1

@@ -11,6 +11,7 @@ use Rattle.refusals.specs.Answers.{pick, demand, every}
 use Rattle.ranges.specs.Ranges.{within}
 use Rattle.macros.specs.declared.Finding.{Finding}
 use Rattle.macros.specs.declared.Finding.the-variants as Finding
+use Rattle.macros.specs.declared.Part.{Part}
 use Rattle.macros.specs.declared.Place.{Place}
 use Rattle.macros.specs.declared.Place.the-variants as Place
 
@@ -188,14 +189,26 @@ placed L volatile saved n =
     (pick (leb 1 (length (bodyOf (natAbs n) (entries L volatile)))) (placedIn L 1 volatile (natAbs n)) (placedIn L 2 saved (natAbs n)))
     (unplaced (findRefusal L volatile saved n))
 
--- the store that it names
-abbrev pub storeNamed : Placed → (volatile saved : List ℕ) → List ℕ
+-- what belongs to the store that it names
+abbrev pub storeNamed : {A : Type 0} → Placed → (volatile saved : A) → A
 storeNamed p volatile saved = pick (eqb (p .store) 1) volatile saved
 
+-- the bytes that stand there
+abbrev pub bytesPlaced : Placed → (volatile saved : List ℕ) → List ℕ
+bytesPlaced p volatile saved = take (p .long) (drop (p .offset) (storeNamed p volatile saved))
+
+-- where a reference to the body points, by where those to the stores point: to its first byte in the store that is named. Refused, to the front of the
+-- saved store. A pointer is a block of memory, and a place in it.
+unfoldable pub bodyPointer : Placed → (volatile saved : ℕ × ℕ) → ℕ × ℕ
+bodyPointer p volatile saved = (storeNamed p volatile saved .0, p .offset + storeNamed p volatile saved .1)
+
 -- what the answer says
+abbrev pub placedAt : (store : ℕ) → Part → Placed
+placedAt store p = record { number = 0; store = store; offset = p .offset; long = p .long }
+
 unfoldable pub bodyPlaceOf : Place → Placed
-bodyPlaceOf (Place.InVolatile part) = record { number = 0; store = 1; offset = part .offset; long = part .long }
-bodyPlaceOf (Place.InSaved part) = record { number = 0; store = 2; offset = part .offset; long = part .long }
+bodyPlaceOf (Place.InVolatile part) = placedAt 1 part
+bodyPlaceOf (Place.InSaved part) = placedAt 2 part
 bodyPlaceOf (Place.Refused e) = unplaced (numberOf e)
 
 -- ---- looking up by the headers alone
@@ -204,15 +217,27 @@ bodyPlaceOf (Place.Refused e) = unplaced (numberOf e)
 unfoldable pub hasBody : Layout → List ℕ → Bool
 hasBody L s = leb (L .size) (length s) && (leb 1 (L .lengthIn s) && leb (L .size + L .lengthIn s) (length s))
 
--- the body of a macro, from header to header; there are at most k. In "rising macro number" it does not stand behind a greater one
-unfoldable pub bodyByHeaders : Layout → (k number : ℕ) → List ℕ → List ℕ
-bodyByHeaders L zero n s = []
-bodyByHeaders L (suc k) n s =
+-- where the body of a macro stands, from header to header: s is what stands from at on, and there are at most k of them. In "rising macro number" it does
+-- not stand behind a greater one. Where it is absent both are 0
+abbrev pub nowhere : Part
+nowhere = record { offset = 0; long = 0 }
+
+unfoldable pub partByHeaders : Layout → (k number at : ℕ) → List ℕ → Part
+partByHeaders L zero n at s = nowhere
+partByHeaders L (suc k) n at s =
     pick (hasBody L s && leb (L .numberIn s) n)
-    (pick (eqb (L .numberIn s) n) (bodyIn L s) (bodyByHeaders L k n (drop (L .size + L .lengthIn s) s)))
-    []
+    (pick (eqb (L .numberIn s) n) (record { offset = at + L .size; long = L .lengthIn s }) (partByHeaders L k n (at + (L .size + L .lengthIn s)) (drop (L .size + L .lengthIn s) s)))
+    nowhere
+
+abbrev pub partIn : Layout → (number : ℕ) → List ℕ → Part
+partIn L n s = partByHeaders L (length s) n 0 s
 
 -- in the volatile store if it is there, otherwise in the saved store; none for an outside number
+unfoldable pub placedByHeaders : Layout → (volatile saved : List ℕ) → ℤ → Placed
+placedByHeaders L volatile saved n =
+    pick (isMacroNumber n)
+    (pick (leb 1 (partIn L (natAbs n) volatile .long)) (placedAt 1 (partIn L (natAbs n) volatile)) (placedAt 2 (partIn L (natAbs n) saved)))
+    (placedAt 2 nowhere)
+
 unfoldable pub lookedByHeaders : Layout → (volatile saved : List ℕ) → ℤ → List ℕ
-lookedByHeaders L volatile saved n =
-    pick (isMacroNumber n) (orElse (bodyByHeaders L (length volatile) (natAbs n) volatile) (bodyByHeaders L (length saved) (natAbs n) saved)) []
+lookedByHeaders L volatile saved n = bytesPlaced (placedByHeaders L volatile saved n) volatile saved

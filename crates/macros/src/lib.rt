@@ -4,8 +4,8 @@ ghost use mathlib.Core.Path.{_≡_};
 ghost use Prim.Native.Nat.{_+_, _<_, _≤_};
 ghost use lib.ListN.{length, getD, drop};
 ghost use Rattle.refusals.specs.Answers.{every};
-ghost use Rattle.macros.specs.Store.{threeBytes, atMost, isStoreEntry, wellFormed, lookedUp, findRefusal, findingOf, placed, bodyPlaceOf, hasBody, bodyByHeaders, lookedByHeaders};
-ghost use Rattle.macros.specs.Fronts.{LengthIs, FrontIs, GapIs, SurveyIs, gapBehind};
+ghost use Rattle.macros.specs.Store.{threeBytes, atMost, isStoreEntry, wellFormed, lookedUp, findRefusal, findingOf, placed, bodyPointer, bodyPlaceOf, hasBody, partIn, placedByHeaders, lookedByHeaders};
+ghost use Rattle.macros.specs.Fronts.{LengthIs, FrontIs, GapIs, SurveyIs, HandsPart, gapBehind};
 use refusals::Refusal;
 
 // "The header is three bytes."
@@ -245,6 +245,7 @@ pub fn locate<'a>(volatile: &'a [u8], saved: &'a [u8], number: i32) -> Place
 // The body as part of whichever store holds it; an empty part where there is none.
 pub fn look_up<'a>(volatile: &'a [u8], saved: &'a [u8], number: i32) -> &'a [u8]
     ensures { λ r. ⌜ now r ≡ lookedUp threeBytes (now (volatile .entry)) (now (saved .entry)) number ⌝ }
+    ensures { λ r. ⌜ r .ptr ≡ bodyPointer (placed threeBytes (now (volatile .entry)) (now (saved .entry)) number) (volatile .entry .ptr) (saved .entry .ptr) ⌝ }
 {
     match locate(volatile, saved, number) {
         Place::InVolatile(part) => {
@@ -276,7 +277,7 @@ pub fn found<'a>(volatile: &'a [u8], saved: &'a [u8], number: i32) -> Finding
 
 // The body of a macro in one store, from header to header, or an empty part.
 fn body_by_headers(store: &[u8], number: usize) -> &[u8]
-    ensures { λ r. ⌜ now r ≡ bodyByHeaders threeBytes (length (now (store .entry))) number (now (store .entry)) ⌝ }
+    ensures { λ r. ⌜ HandsPart (store .entry) (partIn threeBytes number (now (store .entry))) r ⌝ }
 {
     let mut at = 0;
     loop {
@@ -300,6 +301,7 @@ fn body_by_headers(store: &[u8], number: usize) -> &[u8]
 // What look up gives where both stores are known to be well formed: no byte of a body is looked at.
 pub fn look_by_headers<'a>(volatile: &'a [u8], saved: &'a [u8], number: i32) -> &'a [u8]
     ensures { λ r. ⌜ now r ≡ lookedByHeaders threeBytes (now (volatile .entry)) (now (saved .entry)) number ⌝ }
+    ensures { λ r. ⌜ r .ptr ≡ bodyPointer (placedByHeaders threeBytes (now (volatile .entry)) (now (saved .entry)) number) (volatile .entry .ptr) (saved .entry .ptr) ⌝ }
 {
     if !ranges::is_within(0, 32767, number) {
         return &saved[..0];

@@ -16,7 +16,9 @@ use Rattle.parameters.specs.declared.ParametersRead.{ParametersRead}
 use Rattle.parameters.specs.declared.ParametersRead.the-variants.{Whole}
 use Rattle.parameters.specs.declared.Tail.{Tail}
 use Rattle.parameters.specs.declared.Tail.the-variants.{NoList, ListOf}
-use Rattle.parameters.specs.Shapes.{Value, number, scaled, place, valuesOf, tailOf}
+use Rattle.parameters.specs.declared.LastPoint.{LastPoint}
+use Rattle.parameters.specs.declared.LastPoint.the-variants.{NoPoint, Last}
+use Rattle.parameters.specs.Shapes.{Tailed, noList, listOf, tailMeant, Pointed, noPoint, last, pointMeant, Value, number, scaled, place, valuesOf, tailOf}
 use Rattle.parameters.specs.declared.Numbers.{Numbers}
 use Rattle.parameters.specs.Numbers.{Holds, numbersOf}
 use Rattle.parameters.specs.Looking.{Parsed, lookOf}
@@ -32,10 +34,10 @@ codes : List Value → ℕ
 codes [] = 0
 codes (v ∷ vs) = valueCode v + 5 * codes vs
 
-tailCode : Tail → ℕ
-tailCode NoList = 0
-tailCode (ListOf AnInteger) = 1
-tailCode (ListOf ACharacter) = 2
+tailCode : Tailed → ℕ
+tailCode noList = 0
+tailCode (listOf AnInteger) = 1
+tailCode (listOf ACharacter) = 2
 
 -- what a value holds
 integerIn : Value → ℤ
@@ -70,7 +72,7 @@ chosen n vs =
     (pick (eqb n 5) (IntegerThenString (integerIn (at vs 0)))
     (IntegerThenArray (integerIn (at vs 0))))))))))))
 
-pub parametersFor : List Value → Tail → Parameters
+pub parametersFor : List Value → Tailed → Parameters
 parametersFor vs t = chosen (codes vs * 3 + tailCode t) vs
 
 pub parameters-for : (ps : Parameters) → parametersFor (valuesOf ps) (tailOf ps) ≡ ps
@@ -111,3 +113,29 @@ numbers-by a b m n e f = rw (e, f)
 pub numbers-coincide : (vs : List Value) (x y : Numbers) → Holds vs x → Holds vs y → x ≡ y
 numbers-coincide vs x y h k =
     numbers-by (x .values) (y .values) (x .len) (y .len) (h .four ∙ sym (k .four)) (held-long vs x h ∙ sym (held-long vs y k))
+
+-- ---- tail_of and last_point
+
+tail-back : Tailed → Tail
+tail-back noList = NoList
+tail-back (listOf e) = ListOf e
+
+tail-same : (t : Tail) → tail-back (tailMeant t) ≡ t
+unfolding tail-back
+tail-same NoList = refl
+tail-same (ListOf e) = refl
+
+pub tails-coincide : (x y : Tail) {d : Tailed} → tailMeant x ≡ d → tailMeant y ≡ d → x ≡ y
+tails-coincide x y = coincide tailMeant tail-back tail-same
+
+point-back : Pointed → LastPoint
+point-back noPoint = NoPoint
+point-back (last p) = Last p
+
+point-same : (r : LastPoint) → point-back (pointMeant r) ≡ r
+unfolding point-back
+point-same NoPoint = refl
+point-same (Last p) = refl
+
+pub last-points-coincide : (x y : LastPoint) {d : Pointed} → pointMeant x ≡ d → pointMeant y ≡ d → x ≡ y
+last-points-coincide x y = coincide pointMeant point-back point-same

@@ -21,7 +21,8 @@ use Rattle.points.specs.declared.PointRead.{PointRead}
 use Rattle.points.specs.declared.PointRead.the-variants.{At}
 use Rattle.points.specs.Reading.{pointOf, pointAt}
 use Rattle.table.specs.declared.Kind.{Kind}
-use Rattle.table.specs.declared.Kind.the-variants as K
+use Rattle.table.specs.Table.{kindMeant}
+use Rattle.table.specs.Table as K
 use Rattle.parameters.specs.declared.Entry.{Entry}
 use Rattle.parameters.specs.declared.Entry.the-variants.{AnInteger, ACharacter}
 use Rattle.parameters.specs.declared.Run.{Run}
@@ -32,12 +33,9 @@ use Rattle.parameters.specs.declared.TwoEntriesRead.the-variants.{Both}
 use Rattle.parameters.specs.declared.RunRead.{RunRead}
 use Rattle.parameters.specs.declared.RunRead.the-variants.{Counted}
 use Rattle.parameters.specs.declared.ParametersRead.{ParametersRead}
-use Rattle.parameters.specs.declared.ParametersRead.the-variants.{Whole}
-use Rattle.parameters.specs.declared.Tail.{Tail}
-use Rattle.parameters.specs.declared.Tail.the-variants.{NoList, ListOf}
 use Rattle.parameters.specs.Entries.{entryAt, CountedRun, runOf, runAt, handed, afterRun}
-use Rattle.parameters.specs.Shapes.{Part, single, point, Shape, shapeOf, listShape, integerThenListShape, Value, number, onlyList, integerThenList}
-use Rattle.parameters.specs.Looking.{TwoEntries, twoEntriesAt, twoEntriesOf, Fixed, partAt, fixedAt, tailAt, Parsed, parametersAt, lookOf, afterLook}
+use Rattle.parameters.specs.Shapes.{Tailed, noList, listOf, Part, single, point, Shape, shapeOf, listShape, integerThenListShape, Value, number, valuesOf, tailOf}
+use Rattle.parameters.specs.Looking.{TwoEntries, twoEntriesAt, twoEntriesOf, Fixed, partAt, fixedAt, tailAt, Parsed, parametersAt, parsedAs, lookOf, afterLook}
 use Rattle.parameters.proofs.Entering.{entry-given, entry-none}
 
 -- ---- two entries
@@ -98,8 +96,8 @@ as-two-entries e kept ps s at = first-part e kept (entryAt e kept s at) (λ k n.
 
 -- ---- kinds without a list
 
-abbrev without : Parameters → ℕ → Remembered → ParametersRead
-without ps n kept = Whole (record { parameters = ps; run = record { start = 0; count = 0 }; next = n; kept = kept })
+abbrev without : Parameters → ℕ → Remembered → Answer Parsed
+without ps n kept = done (parsedAs ps (record { start = 0; count = 0 }) n kept)
 
 module _ (kept : Remembered) (s : List ℕ) (at : ℕ) where
   module _ {r : IntegerRead} (er : integerOf r ≡ integerAt kept s at) where
@@ -107,11 +105,11 @@ module _ (kept : Remembered) (s : List ℕ) (at : ℕ) where
     unfolding integerOf
     given g = sym er ∙ rw g
 
-    pub one-integer-no : {x : Refusal} {p : ℕ} → r ≡ IntegerRead.Refused x p → lookOf (ParametersRead.Refused x p) ≡ parametersAt kept (shapeOf K.OneInteger) s at
+    pub one-integer-no : {x : Refusal} {p : ℕ} → r ≡ IntegerRead.Refused x p → lookOf (ParametersRead.Refused x p) ≡ parametersAt kept (shapeOf K.oneInteger) s at
     unfolding parametersAt fixedAt partAt entryAt lookOf integerOf
     one-integer-no g = rw (← er, g)
 
-    pub one-integer-is : (x : ℤ) {v : TakenInteger} {t : ParametersRead} → r ≡ Integer v → x ≡ v .value → t ≡ without (OneInteger x) (v .next) kept → lookOf t ≡ parametersAt kept (shapeOf K.OneInteger) s at
+    pub one-integer-is : (x : ℤ) {v : TakenInteger} {t : Answer Parsed} → r ≡ Integer v → x ≡ v .value → t ≡ without (OneInteger x) (v .next) kept → t ≡ parametersAt kept (shapeOf K.oneInteger) s at
     unfolding parametersAt fixedAt partAt entryAt tailAt lookOf
     one-integer-is x g i j = rw (j, i, given g)
 
@@ -125,54 +123,54 @@ module _ (kept : Remembered) (s : List ℕ) (at : ℕ) where
     not-both g = sym er ∙ rw g
 
   module _ {r : TwoEntriesRead} (er : twoEntriesOf r ≡ twoEntriesAt AnInteger kept s at) where
-    pub two-integers-no : {x : Refusal} {p : ℕ} → r ≡ TwoEntriesRead.Refused x p → lookOf (ParametersRead.Refused x p) ≡ parametersAt kept (shapeOf K.TwoIntegers) s at
+    pub two-integers-no : {x : Refusal} {p : ℕ} → r ≡ TwoEntriesRead.Refused x p → lookOf (ParametersRead.Refused x p) ≡ parametersAt kept (shapeOf K.twoIntegers) s at
     unfolding parametersAt lookOf
     two-integers-no g = rw (as-two-entries AnInteger kept [] s at, not-both AnInteger er g)
 
-    pub two-integers-is : (x y : ℤ) {v w : ℤ} {n : ℕ} {t : ParametersRead} → r ≡ Both v w n → x ≡ v → y ≡ w → t ≡ without (TwoIntegers x y) n kept → lookOf t ≡ parametersAt kept (shapeOf K.TwoIntegers) s at
+    pub two-integers-is : (x y : ℤ) {v w : ℤ} {n : ℕ} {t : Answer Parsed} → r ≡ Both v w n → x ≡ v → y ≡ w → t ≡ without (TwoIntegers x y) n kept → t ≡ parametersAt kept (shapeOf K.twoIntegers) s at
     unfolding parametersAt fixedAt tailAt lookOf
     two-integers-is x y g i j k = rw (k, i, j, as-two-entries AnInteger kept [] s at, both AnInteger er g)
 
-    pub real-no : {x : Refusal} {p : ℕ} → r ≡ TwoEntriesRead.Refused x p → lookOf (ParametersRead.Refused x p) ≡ parametersAt kept (shapeOf K.AReal) s at
+    pub real-no : {x : Refusal} {p : ℕ} → r ≡ TwoEntriesRead.Refused x p → lookOf (ParametersRead.Refused x p) ≡ parametersAt kept (shapeOf K.aReal) s at
     unfolding parametersAt fixedAt partAt lookOf
     real-no g = rw (not-both AnInteger er g)
 
-    pub real-is : (x y : ℤ) {v w : ℤ} {n : ℕ} {t : ParametersRead} → r ≡ Both v w n → x ≡ v → y ≡ w → t ≡ without (AReal (record { mantissa = x; exponent = y })) n kept → lookOf t ≡ parametersAt kept (shapeOf K.AReal) s at
+    pub real-is : (x y : ℤ) {v w : ℤ} {n : ℕ} {t : Answer Parsed} → r ≡ Both v w n → x ≡ v → y ≡ w → t ≡ without (AReal (record { mantissa = x; exponent = y })) n kept → t ≡ parametersAt kept (shapeOf K.aReal) s at
     unfolding parametersAt fixedAt partAt tailAt lookOf
     real-is x y g i j k = rw (k, i, j, both AnInteger er g)
 
-    pub three-integers-no : {x : Refusal} {p : ℕ} → r ≡ TwoEntriesRead.Refused x p → lookOf (ParametersRead.Refused x p) ≡ parametersAt kept (shapeOf K.ThreeIntegers) s at
+    pub three-integers-no : {x : Refusal} {p : ℕ} → r ≡ TwoEntriesRead.Refused x p → lookOf (ParametersRead.Refused x p) ≡ parametersAt kept (shapeOf K.threeIntegers) s at
     unfolding parametersAt lookOf
     three-integers-no g = rw (as-two-entries AnInteger kept (single AnInteger ∷ []) s at, not-both AnInteger er g)
 
     module _ {v w : ℤ} {n : ℕ} (g : r ≡ Both v w n) {q : IntegerRead} (eq : integerOf q ≡ integerAt kept s n) where
-      pub three-integers-short : {x : Refusal} {p : ℕ} → q ≡ IntegerRead.Refused x p → lookOf (ParametersRead.Refused x p) ≡ parametersAt kept (shapeOf K.ThreeIntegers) s at
+      pub three-integers-short : {x : Refusal} {p : ℕ} → q ≡ IntegerRead.Refused x p → lookOf (ParametersRead.Refused x p) ≡ parametersAt kept (shapeOf K.threeIntegers) s at
       unfolding parametersAt fixedAt partAt entryAt lookOf integerOf
       three-integers-short h = rw (as-two-entries AnInteger kept (single AnInteger ∷ []) s at, both AnInteger er g, ← eq, h)
 
-      pub three-integers-is : (x y z : ℤ) {u : TakenInteger} {t : ParametersRead} → q ≡ Integer u → x ≡ v → y ≡ w → z ≡ u .value → t ≡ without (ThreeIntegers x y z) (u .next) kept → lookOf t ≡ parametersAt kept (shapeOf K.ThreeIntegers) s at
+      pub three-integers-is : (x y z : ℤ) {u : TakenInteger} {t : Answer Parsed} → q ≡ Integer u → x ≡ v → y ≡ w → z ≡ u .value → t ≡ without (ThreeIntegers x y z) (u .next) kept → t ≡ parametersAt kept (shapeOf K.threeIntegers) s at
       unfolding parametersAt fixedAt partAt entryAt tailAt lookOf integerOf
       three-integers-is x y z h i j k l = rw (l, i, j, k, as-two-entries AnInteger kept (single AnInteger ∷ []) s at, both AnInteger er g, ← eq, h)
 
   module _ {r : TwoEntriesRead} (er : twoEntriesOf r ≡ twoEntriesAt ACharacter kept s at) where
-    pub two-characters-no : {x : Refusal} {p : ℕ} → r ≡ TwoEntriesRead.Refused x p → lookOf (ParametersRead.Refused x p) ≡ parametersAt kept (shapeOf K.TwoCharacters) s at
+    pub two-characters-no : {x : Refusal} {p : ℕ} → r ≡ TwoEntriesRead.Refused x p → lookOf (ParametersRead.Refused x p) ≡ parametersAt kept (shapeOf K.twoCharacters) s at
     unfolding parametersAt lookOf
     two-characters-no g = rw (as-two-entries ACharacter kept [] s at, not-both ACharacter er g)
 
-    pub two-characters-is : (x y : ℤ) {v w : ℤ} {n : ℕ} {t : ParametersRead} → r ≡ Both v w n → x ≡ v → y ≡ w → t ≡ without (TwoCharacters x y) n kept → lookOf t ≡ parametersAt kept (shapeOf K.TwoCharacters) s at
+    pub two-characters-is : (x y : ℤ) {v w : ℤ} {n : ℕ} {t : Answer Parsed} → r ≡ Both v w n → x ≡ v → y ≡ w → t ≡ without (TwoCharacters x y) n kept → t ≡ parametersAt kept (shapeOf K.twoCharacters) s at
     unfolding parametersAt fixedAt tailAt lookOf
     two-characters-is x y g i j k = rw (k, i, j, as-two-entries ACharacter kept [] s at, both ACharacter er g)
 
   module _ {r : PointRead} (er : pointOf r ≡ pointAt kept s at) where
-    pub one-point-no : {x : Refusal} {p : ℕ} → r ≡ PointRead.Refused x p → lookOf (ParametersRead.Refused x p) ≡ parametersAt kept (shapeOf K.OnePoint) s at
+    pub one-point-no : {x : Refusal} {p : ℕ} → r ≡ PointRead.Refused x p → lookOf (ParametersRead.Refused x p) ≡ parametersAt kept (shapeOf K.onePoint) s at
     unfolding parametersAt fixedAt partAt lookOf pointOf
     one-point-no g = rw (← er, g)
 
-    pub one-point-is : {v : TakenPoint} {t : ParametersRead} {k : Remembered} → r ≡ At v → t ≡ without (OnePoint (v .value)) (v .next) k → k ≡ remember kept (v .value) → lookOf t ≡ parametersAt kept (shapeOf K.OnePoint) s at
+    pub one-point-is : {v : TakenPoint} {t : Answer Parsed} {k : Remembered} → r ≡ At v → t ≡ without (OnePoint (v .value)) (v .next) k → k ≡ remember kept (v .value) → t ≡ parametersAt kept (shapeOf K.onePoint) s at
     unfolding parametersAt fixedAt partAt tailAt lookOf pointOf
     one-point-is g i j = rw (i, j, ← er, g)
 
-    pub two-points-no : {x : Refusal} {p : ℕ} → r ≡ PointRead.Refused x p → lookOf (ParametersRead.Refused x p) ≡ parametersAt kept (shapeOf K.TwoPoints) s at
+    pub two-points-no : {x : Refusal} {p : ℕ} → r ≡ PointRead.Refused x p → lookOf (ParametersRead.Refused x p) ≡ parametersAt kept (shapeOf K.twoPoints) s at
     unfolding parametersAt fixedAt partAt lookOf pointOf
     two-points-no g = rw (← er, g)
 
@@ -180,11 +178,11 @@ module _ (kept : Remembered) (s : List ℕ) (at : ℕ) where
       second : pointOf q ≡ pointAt (remember kept (v .value)) s (v .next)
       second = rw ek at eq
 
-      pub two-points-half : {x : Refusal} {p₂ : ℕ} → q ≡ PointRead.Refused x p₂ → lookOf (ParametersRead.Refused x p₂) ≡ parametersAt kept (shapeOf K.TwoPoints) s at
+      pub two-points-half : {x : Refusal} {p₂ : ℕ} → q ≡ PointRead.Refused x p₂ → lookOf (ParametersRead.Refused x p₂) ≡ parametersAt kept (shapeOf K.twoPoints) s at
       unfolding parametersAt fixedAt partAt lookOf pointOf
       two-points-half h = rw (← er, g, ← second, h)
 
-      pub two-points-is : {w : TakenPoint} {t : ParametersRead} {l : Remembered} → q ≡ At w → t ≡ without (TwoPoints (v .value) (w .value)) (w .next) l → l ≡ remember k (w .value) → lookOf t ≡ parametersAt kept (shapeOf K.TwoPoints) s at
+      pub two-points-is : {w : TakenPoint} {t : Answer Parsed} {l : Remembered} → q ≡ At w → t ≡ without (TwoPoints (v .value) (w .value)) (w .next) l → l ≡ remember k (w .value) → t ≡ parametersAt kept (shapeOf K.twoPoints) s at
       unfolding parametersAt fixedAt partAt tailAt lookOf pointOf
       two-points-is h i j = rw (i, j, ← er, g, ← second, h)
 
@@ -192,35 +190,14 @@ pub ruleset fixeds = (one-integer-no, one-integer-is, two-integers-no, two-integ
 
 -- ---- kinds with a list
 
-pub only-integers : {e : Entry} → e ≡ AnInteger → Parameters.AnArray ≡ onlyList e
-only-integers g = rw g
+pub list-of : {e j : Entry} → e ≡ j → listOf j ≡ listOf e
+list-of g = rw g
 
-pub only-characters : {e : Entry} → e ≡ ACharacter → Parameters.AString ≡ onlyList e
-only-characters g = rw g
-
-pub integer-then-integers : {e : Entry} (x a : ℤ) → e ≡ AnInteger → x ≡ a → Parameters.IntegerThenArray x ≡ integerThenList a e
-integer-then-integers x a g i = rw (g, i)
-
-pub integer-then-characters : {e : Entry} (x a : ℤ) → e ≡ ACharacter → x ≡ a → Parameters.IntegerThenString x ≡ integerThenList a e
-integer-then-characters x a g i = rw (g, i)
-
-pub ruleset lists = (only-integers, only-characters, integer-then-integers, integer-then-characters)
-
-abbrev with-list : Parameters → Run → ℕ → Remembered → ParametersRead
-with-list ps w n kept = Whole (record { parameters = ps; run = w; next = n; kept = kept })
-
-list-said : (e : Entry) (w : Run) (n : ℕ) (kept : Remembered) → lookOf (with-list (onlyList e) w n kept) ≡ done (record { values = []; tail = ListOf e; start = w .start; count = w .count; next = n; kept = kept })
-unfolding lookOf
-list-said AnInteger w n kept = refl
-list-said ACharacter w n kept = refl
-
-integer-then-said : (a : ℤ) (e : Entry) (w : Run) (n : ℕ) (kept : Remembered) → lookOf (with-list (integerThenList a e) w n kept) ≡ done (record { values = number AnInteger a ∷ []; tail = ListOf e; start = w .start; count = w .count; next = n; kept = kept })
-unfolding lookOf
-integer-then-said a AnInteger w n kept = refl
-integer-then-said a ACharacter w n kept = refl
+abbrev with-list : Parameters → Run → ℕ → Remembered → Answer Parsed
+with-list ps w n kept = done (parsedAs ps w n kept)
 
 -- the entries of a list behind fixed values are those of the list
-behind : (vs : List Value) (e : Entry) (kept : Remembered) (s : List ℕ) (l : List ℤ) (h : Answer CountedRun) → afterRun e kept s h l ≡ afterLook s (then h (λ h. done (record { values = vs; tail = ListOf e; start = h .start; count = h .count; next = h .next; kept = kept }))) l
+behind : (vs : List Value) (e : Entry) (kept : Remembered) (s : List ℕ) (l : List ℤ) (h : Answer CountedRun) → afterRun e kept s h l ≡ afterLook s (then h (λ h. done (record { values = vs; tail = listOf e; start = h .start; count = h .count; next = h .next; kept = kept }))) l
 unfolding afterRun afterLook
 behind vs e kept s l (done h) = refl
 behind vs e kept s l (refused x p) = refl
@@ -231,9 +208,9 @@ module _ (e : Entry) (kept : Remembered) (s : List ℕ) (at : ℕ) where
     unfolding parametersAt fixedAt tailAt lookOf runOf
     list-no g = rw (← er, g)
 
-    pub list-is : {ps : Parameters} {w : Run} {n : ℕ} {t : ParametersRead} → r ≡ Counted w n → ps ≡ onlyList e → t ≡ with-list ps w n kept → lookOf t ≡ parametersAt kept (listShape e) s at
+    pub list-is : (ps : Parameters) {w : Run} {n : ℕ} {t : Answer Parsed} → r ≡ Counted w n → valuesOf ps ≡ [] → tailOf ps ≡ listOf e → t ≡ with-list ps w n kept → t ≡ parametersAt kept (listShape e) s at
     unfolding parametersAt fixedAt tailAt runOf
-    list-is {w = w} {n = n} g i j = rw (j, i, list-said e w n kept, ← er, g)
+    list-is ps g i j k = rw (k, i, j, ← er, g)
 
   module _ {r : IntegerRead} (er : integerOf r ≡ integerAt kept s at) where
     pub number-no : {x : Refusal} {p : ℕ} → r ≡ IntegerRead.Refused x p → lookOf (ParametersRead.Refused x p) ≡ parametersAt kept (integerThenListShape e) s at
@@ -254,9 +231,9 @@ module _ (e : Entry) (kept : Remembered) (s : List ℕ) (at : ℕ) where
         unfolding parametersAt fixedAt partAt entryAt tailAt lookOf integerOf runOf
         integer-then-no h = rw (← er, g, ← eq, h)
 
-        pub integer-then-is : (x : ℤ) {ps : Parameters} {w : Run} {m : ℕ} {t : ParametersRead} → q ≡ Counted w m → ps ≡ integerThenList x e → x ≡ v .value → t ≡ with-list ps w m kept → lookOf t ≡ parametersAt kept (integerThenListShape e) s at
+        pub integer-then-is : (x : ℤ) (ps : Parameters) {w : Run} {m : ℕ} {t : Answer Parsed} → q ≡ Counted w m → valuesOf ps ≡ number AnInteger x ∷ [] → tailOf ps ≡ listOf e → x ≡ v .value → t ≡ with-list ps w m kept → t ≡ parametersAt kept (integerThenListShape e) s at
         unfolding parametersAt fixedAt partAt entryAt tailAt integerOf runOf
-        integer-then-is x {w = w} {m = m} h i j k = rw (k, i, j, integer-then-said (v .value) e w m kept, ← er, g, ← eq, h)
+        integer-then-is x ps h i j k l = rw (l, i, j, k, ← er, g, ← eq, h)
 
   pub list-entries : (l : List ℤ) {o : List ℤ} → o ≡ afterRun e kept s (runAt e kept s at) l → o ≡ afterLook s (parametersAt kept (listShape e) s at) l
   unfolding parametersAt fixedAt tailAt
@@ -266,23 +243,23 @@ pub ruleset runs = (list-no, list-is, list-entries, number-no, number-kept, inte
 
 -- ---- by kind
 
-pub of-kind : (kept : Remembered) (s : List ℕ) (at : ℕ) {k j : Kind} {q : Answer Parsed} → k ≡ j → q ≡ parametersAt kept (shapeOf j) s at → q ≡ parametersAt kept (shapeOf k) s at
-of-kind kept s at e f = f ∙ ap (λ (k : Kind). parametersAt kept (shapeOf k) s at) (sym e)
+pub of-kind : (kept : Remembered) (s : List ℕ) (at : ℕ) {k j : Kind} {q : Answer Parsed} → k ≡ j → q ≡ parametersAt kept (shapeOf (kindMeant j)) s at → q ≡ parametersAt kept (shapeOf (kindMeant k)) s at
+of-kind kept s at e f = f ∙ ap (λ (k : Kind). parametersAt kept (shapeOf (kindMeant k)) s at) (sym e)
 
-pub entries-of-kind : (kept : Remembered) (s : List ℕ) (at : ℕ) (l : List ℤ) {k j : Kind} {o : List ℤ} → k ≡ j → o ≡ afterLook s (parametersAt kept (shapeOf j) s at) l → o ≡ afterLook s (parametersAt kept (shapeOf k) s at) l
-entries-of-kind kept s at l e f = f ∙ ap (λ (k : Kind). afterLook s (parametersAt kept (shapeOf k) s at) l) (sym e)
+pub entries-of-kind : (kept : Remembered) (s : List ℕ) (at : ℕ) (l : List ℤ) {k j : Kind} {o : List ℤ} → k ≡ j → o ≡ afterLook s (parametersAt kept (shapeOf (kindMeant j)) s at) l → o ≡ afterLook s (parametersAt kept (shapeOf (kindMeant k)) s at) l
+entries-of-kind kept s at l e f = f ∙ ap (λ (k : Kind). afterLook s (parametersAt kept (shapeOf (kindMeant k)) s at) l) (sym e)
 
 -- a kind without a list leaves the lent one as it is
-fixed-left : (kept : Remembered) (ps : List Part) (s : List ℕ) (at : ℕ) (l : List ℤ) → l ≡ afterLook s (parametersAt kept (record { fixed = ps; tail = NoList }) s at) l
+fixed-left : (kept : Remembered) (ps : List Part) (s : List ℕ) (at : ℕ) (l : List ℤ) → l ≡ afterLook s (parametersAt kept (record { fixed = ps; tail = noList }) s at) l
 unfolding parametersAt tailAt afterLook handed allAfter
 fixed-left kept ps s at l =
     by-then (λ a. l ≡ afterLook s a l) (fixedAt kept ps s at) _
     (λ f e. rw (le-leb 0 (length l) (omega arith)))
     (λ x p e. refl)
 
-pub untouched : (kept : Remembered) (s : List ℕ) (at : ℕ) (l : List ℤ) {k j : Kind} → k ≡ j → shapeOf j .tail ≡ NoList → l ≡ afterLook s (parametersAt kept (shapeOf k) s at) l
+pub untouched : (kept : Remembered) (s : List ℕ) (at : ℕ) (l : List ℤ) {k j : Kind} → k ≡ j → shapeOf (kindMeant j) .tail ≡ noList → l ≡ afterLook s (parametersAt kept (shapeOf (kindMeant k)) s at) l
 untouched kept s at l {k} {j} e t =
-    let shape : shapeOf k ≡ record { fixed = shapeOf j .fixed; tail = NoList } = ap shapeOf e ∙ ap (λ (x : Tail). record { fixed = shapeOf j .fixed; tail = x }) t in
-    fixed-left kept (shapeOf j .fixed) s at l ∙ ap (λ (x : Shape). afterLook s (parametersAt kept x s at) l) (sym shape)
+    let shape : shapeOf (kindMeant k) ≡ record { fixed = shapeOf (kindMeant j) .fixed; tail = noList } = ap (λ (x : Kind). shapeOf (kindMeant x)) e ∙ ap (λ (x : Tailed). record { fixed = shapeOf (kindMeant j) .fixed; tail = x }) t in
+    fixed-left kept (shapeOf (kindMeant j) .fixed) s at l ∙ ap (λ (x : Shape). afterLook s (parametersAt kept x s at) l) (sym shape)
 
 pub ruleset of-kinds = (of-kind, entries-of-kind, untouched, refl)

@@ -8,17 +8,15 @@ use lib.IntN.{ℤ, pos}
 use Rattle.memory.specs.declared.Point.{Point}
 use Rattle.parameters.specs.declared.Real.{Real}
 use Rattle.parameters.specs.declared.Numbers.{Numbers}
-use Rattle.parameters.specs.declared.LastPoint.{LastPoint}
-use Rattle.parameters.specs.declared.Tail.{Tail}
 use Rattle.parameters.specs.declared.Parameters.{Parameters}
 use Rattle.parameters.specs.declared.Parameters.the-variants.{OneInteger, TwoIntegers, ThreeIntegers, OnePoint, TwoPoints, AReal, AString, AnArray, IntegerThenArray, IntegerThenString, TwoCharacters}
-use Rattle.parameters.specs.Shapes.{valuesOf, tailOf, lastPoint}
+use Rattle.parameters.specs.Shapes.{Tailed, Pointed, valuesOf, tailOf, lastPoint}
 use Rattle.parameters.specs.Numbers.{numbersOf, fourOf, Holds}
 
-pub last-of : {p q : Parameters} {a : LastPoint} → p ≡ q → lastPoint (valuesOf q) ≡ a → a ≡ lastPoint (valuesOf p)
+pub last-of : {p q : Parameters} {a : Pointed} → p ≡ q → lastPoint (valuesOf q) ≡ a → a ≡ lastPoint (valuesOf p)
 last-of e g = sym (ap (λ x. lastPoint (valuesOf x)) e ∙ g)
 
-pub tail-of : {p q : Parameters} {a : Tail} → p ≡ q → tailOf q ≡ a → a ≡ tailOf p
+pub tail-of : {p q : Parameters} {a : Tailed} → p ≡ q → tailOf q ≡ a → a ≡ tailOf p
 tail-of e g = sym (ap tailOf e ∙ g)
 
 abbrev held : (len : ℕ) (a b c d : ℤ) → Numbers

@@ -10,14 +10,14 @@ use Rattle.numbers.specs.Integers.{integerAt}
 use Rattle.points.specs.Reading.{pointAt}
 use Rattle.parameters.specs.declared.Entry.{Entry}
 use Rattle.parameters.specs.declared.Entry.the-variants.{AnInteger}
+use Rattle.parameters.specs.declared.Parameters.{Parameters}
+use Rattle.parameters.specs.declared.Run.{Run}
 use Rattle.parameters.specs.declared.ParametersRead.{ParametersRead}
 use Rattle.parameters.specs.declared.ParametersRead.the-variants.{Whole}
 use Rattle.parameters.specs.declared.TwoEntriesRead.{TwoEntriesRead}
 use Rattle.parameters.specs.declared.TwoEntriesRead.the-variants.{Both}
-use Rattle.parameters.specs.declared.Tail.{Tail}
-use Rattle.parameters.specs.declared.Tail.the-variants.{NoList, ListOf}
 use Rattle.parameters.specs.Entries.{entryAt, entryValues, CountedRun, runAt, handed}
-use Rattle.parameters.specs.Shapes.{Part, single, real, point, Shape, Value, number, scaled, place, valuesOf, tailOf}
+use Rattle.parameters.specs.Shapes.{Tailed, noList, listOf, Part, single, real, point, Shape, Value, number, scaled, place, valuesOf, tailOf}
 
 pub record TwoEntries : Type 0 where
   pub one : ℤ
@@ -56,20 +56,20 @@ fixedAt kept (p ∷ ps) s at =
     (λ f. then (fixedAt (f .kept) ps s (f .next)) (λ g. done (record { values = f .values ++ g .values; next = g .next; kept = g .kept })))
 
 -- the string or the array behind them
-unfoldable pub tailAt : Remembered → Tail → List ℕ → ℕ → Answer CountedRun
-tailAt kept NoList s at = done (record { start = 0; count = 0; next = at })
-tailAt kept (ListOf e) s at = runAt e kept s at
+unfoldable pub tailAt : Remembered → Tailed → List ℕ → ℕ → Answer CountedRun
+tailAt kept noList s at = done (record { start = 0; count = 0; next = at })
+tailAt kept (listOf e) s at = runAt e kept s at
 
 -- all parameters: the values and the kind of list, the run of its entries, where reading goes on, and what is then remembered
 pub record Parsed : Type 0 where
   pub values : List Value
-  pub tail : Tail
+  pub tail : Tailed
   pub start : ℕ
   pub count : ℕ
   pub next : ℕ
   pub kept : Remembered
 
-abbrev with : Fixed → Tail → CountedRun → Answer Parsed
+abbrev with : Fixed → Tailed → CountedRun → Answer Parsed
 with f t h = done (record { values = f .values; tail = t; start = h .start; count = h .count; next = h .next; kept = f .kept })
 
 unfoldable pub parametersAt : Remembered → Shape → List ℕ → ℕ → Answer Parsed
@@ -77,16 +77,18 @@ parametersAt kept shape s at =
     then (fixedAt kept (shape .fixed) s at) (λ f. then (tailAt (f .kept) (shape .tail) s (f .next)) (λ h. with f (shape .tail) h))
 
 -- what the answer says
+abbrev pub parsedAs : Parameters → Run → ℕ → Remembered → Parsed
+parsedAs ps run next kept = record { values = valuesOf ps; tail = tailOf ps; start = run .start; count = run .count; next = next; kept = kept }
+
 unfoldable pub lookOf : ParametersRead → Answer Parsed
-lookOf (Whole t) =
-    done (record { values = valuesOf (t .parameters); tail = tailOf (t .parameters); start = t .run .start; count = t .run .count; next = t .next; kept = t .kept })
+lookOf (Whole t) = done (parsedAs (t .parameters) (t .run) (t .next) (t .kept))
 lookOf (ParametersRead.Refused e p) = refused (numberOf e) p
 
 -- ---- the entries, and the lent list behind them
 
-abbrev pub entryIn : Tail → Entry
-entryIn NoList = AnInteger
-entryIn (ListOf e) = e
+abbrev pub entryIn : Tailed → Entry
+entryIn noList = AnInteger
+entryIn (listOf e) = e
 
 abbrev pub parsedEntries : List ℕ → Parsed → List ℤ
 parsedEntries s p = entryValues (entryIn (p .tail)) (p .kept) (p .count) s (p .start)

@@ -3,8 +3,8 @@ use Prim.Native.Nat.{ℕ}
 use mathlib.Core.List.{List, [], _∷_}
 use lib.IntN.{ℤ}
 use Rattle.memory.specs.declared.Point.{Point}
-use Rattle.table.specs.declared.Kind.{Kind}
-use Rattle.table.specs.declared.Kind.the-variants as K
+use Rattle.table.specs.Table.{ParameterKind}
+use Rattle.table.specs.Table as K
 use Rattle.parameters.specs.declared.Entry.{Entry}
 use Rattle.parameters.specs.declared.Entry.the-variants.{AnInteger, ACharacter}
 use Rattle.parameters.specs.declared.Parameters.{Parameters}
@@ -19,32 +19,36 @@ pub data Part : Type 0 where
   real : Part
   point : Part
 
--- fixed parts, and the tail: no list, or one of such entries
+-- no string or array behind the fixed parts, or one of such entries
+pub data Tailed : Type 0 where
+  noList : Tailed
+  listOf : Entry → Tailed
+
 pub record Shape : Type 0 where
   pub fixed : List Part
-  pub tail : Tail
+  pub tail : Tailed
 
 abbrev fixedOnly : List Part → Shape
-fixedOnly ps = record { fixed = ps; tail = NoList }
+fixedOnly ps = record { fixed = ps; tail = noList }
 
 abbrev pub listShape : Entry → Shape
-listShape e = record { fixed = []; tail = ListOf e }
+listShape e = record { fixed = []; tail = listOf e }
 
 abbrev pub integerThenListShape : Entry → Shape
-integerThenListShape e = record { fixed = single AnInteger ∷ []; tail = ListOf e }
+integerThenListShape e = record { fixed = single AnInteger ∷ []; tail = listOf e }
 
-abbrev pub shapeOf : Kind → Shape
-shapeOf K.OneInteger = fixedOnly (single AnInteger ∷ [])
-shapeOf K.TwoIntegers = fixedOnly (single AnInteger ∷ single AnInteger ∷ [])
-shapeOf K.ThreeIntegers = fixedOnly (single AnInteger ∷ single AnInteger ∷ single AnInteger ∷ [])
-shapeOf K.OnePoint = fixedOnly (point ∷ [])
-shapeOf K.TwoPoints = fixedOnly (point ∷ point ∷ [])
-shapeOf K.AReal = fixedOnly (real ∷ [])
-shapeOf K.AString = listShape ACharacter
-shapeOf K.AnArray = listShape AnInteger
-shapeOf K.IntegerThenArray = integerThenListShape AnInteger
-shapeOf K.IntegerThenString = integerThenListShape ACharacter
-shapeOf K.TwoCharacters = fixedOnly (single ACharacter ∷ single ACharacter ∷ [])
+abbrev pub shapeOf : ParameterKind → Shape
+shapeOf K.oneInteger = fixedOnly (single AnInteger ∷ [])
+shapeOf K.twoIntegers = fixedOnly (single AnInteger ∷ single AnInteger ∷ [])
+shapeOf K.threeIntegers = fixedOnly (single AnInteger ∷ single AnInteger ∷ single AnInteger ∷ [])
+shapeOf K.onePoint = fixedOnly (point ∷ [])
+shapeOf K.twoPoints = fixedOnly (point ∷ point ∷ [])
+shapeOf K.aReal = fixedOnly (real ∷ [])
+shapeOf K.aString = listShape ACharacter
+shapeOf K.anArray = listShape AnInteger
+shapeOf K.integerThenArray = integerThenListShape AnInteger
+shapeOf K.integerThenString = integerThenListShape ACharacter
+shapeOf K.twoCharacters = fixedOnly (single ACharacter ∷ single ACharacter ∷ [])
 
 -- the values of the fixed parts
 pub data Value : Type 0 where
@@ -67,34 +71,39 @@ valuesOf (IntegerThenString a) = number AnInteger a ∷ []
 valuesOf (TwoCharacters a b) = number ACharacter a ∷ number ACharacter b ∷ []
 
 -- and whether entries of a lent list go with it
-abbrev pub tailOf : Parameters → Tail
-tailOf (OneInteger a) = NoList
-tailOf (TwoIntegers a b) = NoList
-tailOf (ThreeIntegers a b c) = NoList
-tailOf (OnePoint p) = NoList
-tailOf (TwoPoints p q) = NoList
-tailOf (AReal r) = NoList
-tailOf AString = ListOf ACharacter
-tailOf AnArray = ListOf AnInteger
-tailOf (IntegerThenArray a) = ListOf AnInteger
-tailOf (IntegerThenString a) = ListOf ACharacter
-tailOf (TwoCharacters a b) = NoList
+abbrev pub tailOf : Parameters → Tailed
+tailOf (OneInteger a) = noList
+tailOf (TwoIntegers a b) = noList
+tailOf (ThreeIntegers a b c) = noList
+tailOf (OnePoint p) = noList
+tailOf (TwoPoints p q) = noList
+tailOf (AReal r) = noList
+tailOf AString = listOf ACharacter
+tailOf AnArray = listOf AnInteger
+tailOf (IntegerThenArray a) = listOf AnInteger
+tailOf (IntegerThenString a) = listOf ACharacter
+tailOf (TwoCharacters a b) = noList
 
--- the last point among the values, or the one before them
-abbrev pub lastFrom : LastPoint → List Value → LastPoint
+-- "those of the last point": the last among the values, or the one before them
+pub data Pointed : Type 0 where
+  noPoint : Pointed
+  last : Point → Pointed
+
+abbrev pub lastFrom : Pointed → List Value → Pointed
 lastFrom before [] = before
 lastFrom before (number e v ∷ vs) = lastFrom before vs
 lastFrom before (scaled m x ∷ vs) = lastFrom before vs
-lastFrom before (place p ∷ vs) = lastFrom (Last p) vs
+lastFrom before (place p ∷ vs) = lastFrom (last p) vs
 
-abbrev pub lastPoint : List Value → LastPoint
-lastPoint vs = lastFrom NoPoint vs
+abbrev pub lastPoint : List Value → Pointed
+lastPoint vs = lastFrom noPoint vs
 
--- the parameters that are a string or an array, alone or behind an integer
-abbrev pub onlyList : Entry → Parameters
-onlyList AnInteger = AnArray
-onlyList ACharacter = AString
+-- ---- what the answers say
 
-abbrev pub integerThenList : ℤ → Entry → Parameters
-integerThenList a AnInteger = IntegerThenArray a
-integerThenList a ACharacter = IntegerThenString a
+abbrev pub tailMeant : Tail → Tailed
+tailMeant NoList = noList
+tailMeant (ListOf e) = listOf e
+
+abbrev pub pointMeant : LastPoint → Pointed
+pointMeant NoPoint = noPoint
+pointMeant (Last p) = last p

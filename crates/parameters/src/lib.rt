@@ -6,11 +6,13 @@ ghost use Prim.Native.Nat.{_≤_};
 ghost use lib.ListN.{length, take};
 ghost use lib.Seq.{sets};
 ghost use lib.IntN.{pos};
+ghost use Rattle.refusals.specs.Answers.{done};
+ghost use Rattle.table.specs.Table.{oneInteger, twoIntegers, threeIntegers, onePoint, twoPoints, aReal, twoCharacters, kindMeant};
 ghost use Rattle.numbers.specs.Integers.{integerOf};
 ghost use Rattle.parameters.specs.Entries.{entryAt, entryValues, entriesEndOf, entriesEnd, runOf, runAt, handed, afterRun};
-ghost use Rattle.parameters.specs.Shapes.{shapeOf, listShape, integerThenListShape, onlyList, integerThenList, valuesOf, tailOf, lastPoint};
+ghost use Rattle.parameters.specs.Shapes.{shapeOf, listShape, integerThenListShape, listOf, number, valuesOf, tailOf, lastPoint, tailMeant, pointMeant};
 ghost use Rattle.parameters.specs.Numbers.{Holds};
-ghost use Rattle.parameters.specs.Looking.{twoEntriesOf, twoEntriesAt, lookOf, parametersAt, afterLook};
+ghost use Rattle.parameters.specs.Looking.{twoEntriesOf, twoEntriesAt, parsedAs, lookOf, parametersAt, afterLook};
 use memory::Point;
 use memory::Remembered;
 use numbers::CountRead;
@@ -205,7 +207,7 @@ fn run_of(kept: Remembered, entry: Entry, s: &[u8], at: usize, list: &mut [i32])
 // ---- each kind
 
 fn whole(parameters: Parameters, run: Run, next: usize, kept: Remembered) -> ParametersRead
-    ensures { λ r. ⌜ r ≡ ParametersRead.Whole (record { parameters = parameters; run = run; next = next; kept = kept }) ⌝ }
+    ensures { λ r. ⌜ lookOf r ≡ done (parsedAs parameters run next kept) ⌝ }
 {
     let taken = TakenParameters {
         parameters: parameters,
@@ -218,7 +220,7 @@ fn whole(parameters: Parameters, run: Run, next: usize, kept: Remembered) -> Par
 
 // What was read of a kind without a list.
 fn without_list(parameters: Parameters, next: usize, kept: Remembered) -> ParametersRead
-    ensures { λ r. ⌜ r ≡ ParametersRead.Whole (record { parameters = parameters; run = record { start = 0; count = 0 }; next = next; kept = kept }) ⌝ }
+    ensures { λ r. ⌜ lookOf r ≡ done (parsedAs parameters (record { start = 0; count = 0 }) next kept) ⌝ }
 {
     let run = Run { start: 0, count: 0 };
     whole(parameters, run, next, kept)
@@ -237,7 +239,7 @@ fn two_entries(kept: Remembered, entry: Entry, s: &[u8], at: usize) -> TwoEntrie
 }
 
 fn look_one_integer(kept: Remembered, s: &[u8], at: usize) -> ParametersRead
-    ensures { λ r. ⌜ lookOf r ≡ parametersAt kept (shapeOf Kind.OneInteger) (now (s .entry)) at ⌝ }
+    ensures { λ r. ⌜ lookOf r ≡ parametersAt kept (shapeOf oneInteger) (now (s .entry)) at ⌝ }
 {
     match numbers::read_integer(kept, s, at) {
         IntegerRead::Integer(a) => without_list(Parameters::OneInteger(a.value), a.next, kept),
@@ -246,7 +248,7 @@ fn look_one_integer(kept: Remembered, s: &[u8], at: usize) -> ParametersRead
 }
 
 fn look_two_integers(kept: Remembered, s: &[u8], at: usize) -> ParametersRead
-    ensures { λ r. ⌜ lookOf r ≡ parametersAt kept (shapeOf Kind.TwoIntegers) (now (s .entry)) at ⌝ }
+    ensures { λ r. ⌜ lookOf r ≡ parametersAt kept (shapeOf twoIntegers) (now (s .entry)) at ⌝ }
 {
     match two_entries(kept, Entry::AnInteger, s, at) {
         TwoEntriesRead::Both(a, b, n) => without_list(Parameters::TwoIntegers(a, b), n, kept),
@@ -255,7 +257,7 @@ fn look_two_integers(kept: Remembered, s: &[u8], at: usize) -> ParametersRead
 }
 
 fn look_real(kept: Remembered, s: &[u8], at: usize) -> ParametersRead
-    ensures { λ r. ⌜ lookOf r ≡ parametersAt kept (shapeOf Kind.AReal) (now (s .entry)) at ⌝ }
+    ensures { λ r. ⌜ lookOf r ≡ parametersAt kept (shapeOf aReal) (now (s .entry)) at ⌝ }
 {
     match two_entries(kept, Entry::AnInteger, s, at) {
         TwoEntriesRead::Both(a, b, n) => {
@@ -270,7 +272,7 @@ fn look_real(kept: Remembered, s: &[u8], at: usize) -> ParametersRead
 }
 
 fn look_two_characters(kept: Remembered, s: &[u8], at: usize) -> ParametersRead
-    ensures { λ r. ⌜ lookOf r ≡ parametersAt kept (shapeOf Kind.TwoCharacters) (now (s .entry)) at ⌝ }
+    ensures { λ r. ⌜ lookOf r ≡ parametersAt kept (shapeOf twoCharacters) (now (s .entry)) at ⌝ }
 {
     match two_entries(kept, Entry::ACharacter, s, at) {
         TwoEntriesRead::Both(a, b, n) => without_list(Parameters::TwoCharacters(a, b), n, kept),
@@ -279,7 +281,7 @@ fn look_two_characters(kept: Remembered, s: &[u8], at: usize) -> ParametersRead
 }
 
 fn look_three_integers(kept: Remembered, s: &[u8], at: usize) -> ParametersRead
-    ensures { λ r. ⌜ lookOf r ≡ parametersAt kept (shapeOf Kind.ThreeIntegers) (now (s .entry)) at ⌝ }
+    ensures { λ r. ⌜ lookOf r ≡ parametersAt kept (shapeOf threeIntegers) (now (s .entry)) at ⌝ }
 {
     match two_entries(kept, Entry::AnInteger, s, at) {
         TwoEntriesRead::Both(a, b, n) => match numbers::read_integer(kept, s, n) {
@@ -295,7 +297,7 @@ fn look_three_integers(kept: Remembered, s: &[u8], at: usize) -> ParametersRead
 }
 
 fn look_one_point(kept: Remembered, s: &[u8], at: usize) -> ParametersRead
-    ensures { λ r. ⌜ lookOf r ≡ parametersAt kept (shapeOf Kind.OnePoint) (now (s .entry)) at ⌝ }
+    ensures { λ r. ⌜ lookOf r ≡ parametersAt kept (shapeOf onePoint) (now (s .entry)) at ⌝ }
 {
     match points::read_point(kept, s, at) {
         PointRead::At(taken) => {
@@ -312,7 +314,7 @@ fn look_one_point(kept: Remembered, s: &[u8], at: usize) -> ParametersRead
 
 // The second point follows from the first.
 fn look_two_points(kept: Remembered, s: &[u8], at: usize) -> ParametersRead
-    ensures { λ r. ⌜ lookOf r ≡ parametersAt kept (shapeOf Kind.TwoPoints) (now (s .entry)) at ⌝ }
+    ensures { λ r. ⌜ lookOf r ≡ parametersAt kept (shapeOf twoPoints) (now (s .entry)) at ⌝ }
 {
     match points::read_point(kept, s, at) {
         PointRead::At(first) => {
@@ -335,7 +337,7 @@ fn look_two_points(kept: Remembered, s: &[u8], at: usize) -> ParametersRead
 }
 
 fn only_list(entry: Entry) -> Parameters
-    ensures { λ r. ⌜ r ≡ onlyList entry ⌝ }
+    ensures { λ r. ⌜ (valuesOf r ≡ []) × (tailOf r ≡ listOf entry) ⌝ }
 {
     match entry {
         Entry::AnInteger => Parameters::AnArray,
@@ -344,7 +346,7 @@ fn only_list(entry: Entry) -> Parameters
 }
 
 fn integer_then_list(a: i32, entry: Entry) -> Parameters
-    ensures { λ r. ⌜ r ≡ integerThenList a entry ⌝ }
+    ensures { λ r. ⌜ (valuesOf r ≡ number Entry.AnInteger a ∷ []) × (tailOf r ≡ listOf entry) ⌝ }
 {
     match entry {
         Entry::AnInteger => Parameters::IntegerThenArray(a),
@@ -396,7 +398,7 @@ pub fn look_at(
     at: usize,
     list: &mut [i32],
 ) -> ParametersRead
-    ensures { λ r. ⌜ (lookOf r ≡ parametersAt kept (shapeOf kind) (now (s .entry)) at) × (now (list .exit) ≡ afterLook (now (s .entry)) (parametersAt kept (shapeOf kind) (now (s .entry)) at) (now (list .entry))) ⌝ }
+    ensures { λ r. ⌜ (lookOf r ≡ parametersAt kept (shapeOf (kindMeant kind)) (now (s .entry)) at) × (now (list .exit) ≡ afterLook (now (s .entry)) (parametersAt kept (shapeOf (kindMeant kind)) (now (s .entry)) at) (now (list .entry))) ⌝ }
 {
     match kind {
         Kind::OneInteger => look_one_integer(kept, s, at),
@@ -417,7 +419,7 @@ pub fn look_at(
 
 // Whether entries of a list go with the parameters.
 pub fn tail_of(parameters: Parameters) -> Tail
-    ensures { λ r. ⌜ r ≡ tailOf parameters ⌝ }
+    ensures { λ r. ⌜ tailMeant r ≡ tailOf parameters ⌝ }
 {
     match parameters {
         Parameters::OneInteger(_) => Tail::NoList,
@@ -436,7 +438,7 @@ pub fn tail_of(parameters: Parameters) -> Tail
 
 // The point that is remembered behind the parameters.
 pub fn last_point(parameters: Parameters) -> LastPoint
-    ensures { λ r. ⌜ r ≡ lastPoint (valuesOf parameters) ⌝ }
+    ensures { λ r. ⌜ pointMeant r ≡ lastPoint (valuesOf parameters) ⌝ }
 {
     match parameters {
         Parameters::OnePoint(p) => LastPoint::Last(p),

@@ -2,3 +2,4 @@ pub mod Reading
 pub mod Within
 pub mod Calls
 pub mod Whole
+pub mod Coinciding

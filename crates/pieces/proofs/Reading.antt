@@ -27,7 +27,7 @@ use Rattle.stream.specs.declared.Item.the-variants.{Nothing, Text}
 use Rattle.stream.specs.Items.{itemOf, itemAt, toldItem}
 use Rattle.pieces.specs.declared.Piece.{Piece}
 use Rattle.pieces.specs.declared.Piece.the-variants.{End, Copied, Called}
-use Rattle.pieces.specs.Pieces.{isCall, leading, commandPiece, pieceOf, pieceAt, isText}
+use Rattle.pieces.specs.Pieces.{Pieced, isCall, leading, commandPiece, itemPiece, pieceAt, pieceOf, isText}
 
 -- ---- a command
 
@@ -40,39 +40,39 @@ unfolding fourOf
 leads ps h = ap (λ (l : List ℤ). getD l 0 (pos 0)) (h .four) ∙ first-of-four (numbersOf (valuesOf ps))
 
 module _ (first second : ℕ) (values : List Value) (next : ℕ) (after : Remembered) {b : Bool} (eb : b ≡ isCall first second) where
-  pub is-called : {a : ℤ} → b ≡ true → SFits w32 a → a ≡ leading values → Called (toZ w32 (ofZ w32 a)) next after ≡ commandPiece first second values next after
-  unfolding commandPiece
+  pub is-called : {a : ℤ} → b ≡ true → SFits w32 a → a ≡ leading values → pieceOf (Called (toZ w32 (ofZ w32 a)) next after) ≡ commandPiece first second values next after
+  unfolding pieceOf commandPiece
   is-called {a = a} t f e = rw (← eb, t, toZ-ofZ f, e)
 
-  pub is-copied : b ≡ false → Copied next after ≡ commandPiece first second values next after
-  unfolding commandPiece
+  pub is-copied : b ≡ false → pieceOf (Copied next after) ≡ commandPiece first second values next after
+  unfolding pieceOf commandPiece
   is-copied t = rw (← eb, t)
 
 -- ---- an item
 
 module _ (kept : Remembered) (s : List ℕ) (start : ℕ) {r : Item} (er : itemOf r ≡ toldItem (itemAt kept s start 256)) where
-  said : {q : Item} → r ≡ q → pieceOf kept (itemOf q) ≡ pieceAt kept s start
+  said : {q : Item} → r ≡ q → itemPiece kept (itemOf q) ≡ pieceAt kept s start
   unfolding pieceAt
-  said e = ap (pieceOf kept) (sym (ap itemOf e) ∙ er)
+  said e = ap (itemPiece kept) (sym (ap itemOf e) ∙ er)
 
-  pub none-left : r ≡ Nothing → End ≡ pieceAt kept s start
-  unfolding pieceOf itemOf
+  pub none-left : r ≡ Nothing → pieceOf End ≡ pieceAt kept s start
+  unfolding pieceOf itemPiece itemOf
   none-left e = said e
 
-  pub text-copied : {t : TextItem} → r ≡ Text t → Copied (t .next) kept ≡ pieceAt kept s start
-  unfolding pieceOf itemOf
+  pub text-copied : {t : TextItem} → r ≡ Text t → pieceOf (Copied (t .next) kept) ≡ pieceAt kept s start
+  unfolding pieceOf itemPiece itemOf
   text-copied e = said e
 
-  pub command-told : {t : TakenCommand} {p : Piece} → r ≡ Item.Command t → p ≡ commandPiece (t .command .first) (t .command .second) (valuesOf (t .command .parameters)) (t .next) (t .kept) → p ≡ pieceAt kept s start
-  unfolding pieceOf itemOf
-  command-told e j = j ∙ said e
+  pub command-told : {t : TakenCommand} (p : Piece) → r ≡ Item.Command t → pieceOf p ≡ commandPiece (t .command .first) (t .command .second) (valuesOf (t .command .parameters)) (t .next) (t .kept) → pieceOf p ≡ pieceAt kept s start
+  unfolding pieceOf itemPiece itemOf
+  command-told p e j = j ∙ said e
 
-  pub refused-command : {i : RefusedItem} → r ≡ Item.RefusedCommand i → Piece.Refused ≡ pieceAt kept s start
-  unfolding pieceOf itemOf
+  pub refused-command : {i : RefusedItem} → r ≡ Item.RefusedCommand i → pieceOf Piece.Refused ≡ pieceAt kept s start
+  unfolding pieceOf itemPiece itemOf
   refused-command e = said e
 
-  pub refused-call : {x : Refusal} {p : ℕ} → r ≡ Item.Refused x p → Piece.Refused ≡ pieceAt kept s start
-  unfolding pieceOf itemOf
+  pub refused-call : {x : Refusal} {p : ℕ} → r ≡ Item.Refused x p → pieceOf Piece.Refused ≡ pieceAt kept s start
+  unfolding pieceOf itemPiece itemOf
   refused-call e = said e
 
 pub ruleset readings = (none-left, text-copied, command-told, refused-command, refused-call)
@@ -106,8 +106,8 @@ module _ (kept : Remembered) (s : List ℕ) (start : ℕ) where
     pub text-counts : length s < 2 ^ 64 → start + 1 < 2 ^ 64
     text-counts h = omega (arith, h, tests .0)
 
-    pub text-piece : Copied (start + 1) kept ≡ pieceAt kept s start
-    unfolding pieceAt pieceOf toldItem itemAt
+    pub text-piece : pieceOf (Copied (start + 1) kept) ≡ pieceAt kept s start
+    unfolding pieceOf pieceAt itemPiece toldItem itemAt
     text-piece = rw (le-ltb (length s) start (omega (arith, tests .0)), tests .1 .1, lt-ltb start (length s) (tests .0), tests .1 .0)
 
 pub ruleset texts = (at-the-end, an-escape, a-byte)

@@ -2,7 +2,7 @@
 // into is lent here, so that it does not stand in the frames of an expansion.
 ghost use mathlib.Core.Path.{_≡_};
 ghost use Rattle.parameters.specs.Shapes.{valuesOf};
-ghost use Rattle.pieces.specs.Pieces.{isCall, leading, commandPiece, isText, pieceAt};
+ghost use Rattle.pieces.specs.Pieces.{isCall, leading, commandPiece, isText, pieceAt, pieceOf};
 use commands::TakenCommand;
 use memory::Remembered;
 use parameters::Parameters;
@@ -15,7 +15,7 @@ pub enum Piece {
     Copied(usize, Remembered),
     // KX: its number, where the next item starts, and what is then remembered
     Called(i32, usize, Remembered),
-    // a refused or cut command
+    // a refused or cut command: 17
     Refused,
 }
 
@@ -39,7 +39,7 @@ fn leading_number(parameters: Parameters) -> i32
 }
 
 fn command_piece(taken: TakenCommand) -> Piece
-    ensures { λ r. ⌜ r ≡ commandPiece (taken .command .first) (taken .command .second) (valuesOf (taken .command .parameters)) (taken .next) (taken .kept) ⌝ }
+    ensures { λ r. ⌜ pieceOf r ≡ commandPiece (taken .command .first) (taken .command .second) (valuesOf (taken .command .parameters)) (taken .next) (taken .kept) ⌝ }
 {
     let command = taken.command;
     let next = taken.next;
@@ -54,7 +54,7 @@ fn command_piece(taken: TakenCommand) -> Piece
 
 // The piece of a body that starts at `start`, by its item.
 fn piece_of_item(kept: Remembered, body: &[u8], start: usize) -> Piece
-    ensures { λ r. ⌜ r ≡ pieceAt kept (now (body .entry)) start ⌝ }
+    ensures { λ r. ⌜ pieceOf r ≡ pieceAt kept (now (body .entry)) start ⌝ }
 {
     let mut list = [0; 256];
     match stream::read_item(kept, body, start, &mut list) {
@@ -82,7 +82,7 @@ fn is_text(kept: Remembered, body: &[u8], start: usize) -> bool
 
 // The piece of a body that starts at `start`. No list is made for a text byte.
 pub fn piece_at(kept: Remembered, body: &[u8], start: usize) -> Piece
-    ensures { λ r. ⌜ r ≡ pieceAt kept (now (body .entry)) start ⌝ }
+    ensures { λ r. ⌜ pieceOf r ≡ pieceAt kept (now (body .entry)) start ⌝ }
 {
     if is_text(kept, body, start) {
         let next = start + 1;

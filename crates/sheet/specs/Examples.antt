@@ -17,7 +17,7 @@ use Rattle.listing.specs.Listing.{nextStart, nextKept, entriesOf, lineThen, lin
 use Rattle.macros.specs.Store.{isStoreEntry, threeBytes, encoded, wellFormed, keep, bodyOf, bodyInEither, lookRefusal, findRefusal, lookedUp, placed}
 use Rattle.macros.specs.Store.{frontEntries}
 use Rattle.defining.specs.Defining.{mayDefine, beforeRoom, defineRefusal, storeAfter}
-use Rattle.pieces.specs.Pieces.{commandPiece, pieceOf, pieceAt}
+use Rattle.pieces.specs.Pieces.{commandPiece, itemPiece, pieceAt}
 use Rattle.expansion.specs.Expansion.{walked, entering, callStretch, started, expandRefusal, expandTold, expandOut}
 use Rattle.sheet.specs.Rows.{SheetRow, given-of, paper-of}
 use Rattle.sheet.specs.MacroRows.{store-examples, expansion-examples}
@@ -28,5 +28,5 @@ examples = store-examples ++ expansion-examples ++ line-examples
 
 -- the one claim
 pub all-as-shown : map given-of examples ≡ map paper-of examples
-unfolding every endsAfter allAfter byteAt pairAt integerFrom countIn byKind endsAt lastAt afterLoY afterUpper afterHiY pointFrom pointAt kindOf begins entryAt runAt partAt fixedAt tailAt parametersAt letterAt secondAt headAt bodyAt commandAt passedFrom commandItem itemAt toldItem itemOf digitsOf decimal field fields listed opening textLine letters commandHead parametersWords commandLine pair refusedLine lineOf lastLine nextStart nextKept entriesOf lineThen linesFrom linesOf listingWith listingOf threeBytes encoded isStoreEntry frontEntries wellFormed keep bodyOf mayDefine beforeRoom defineRefusal storeAfter bodyInEither lookRefusal findRefusal lookedUp placed commandPiece pieceOf pieceAt walked entering callStretch started expandRefusal expandTold expandOut
+unfolding every endsAfter allAfter byteAt pairAt integerFrom countIn byKind endsAt lastAt afterLoY afterUpper afterHiY pointFrom pointAt kindOf begins entryAt runAt partAt fixedAt tailAt parametersAt letterAt secondAt headAt bodyAt commandAt passedFrom commandItem itemAt toldItem itemOf digitsOf decimal field fields listed opening textLine letters commandHead parametersWords commandLine pair refusedLine lineOf lastLine nextStart nextKept entriesOf lineThen linesFrom linesOf listingWith listingOf threeBytes encoded isStoreEntry frontEntries wellFormed keep bodyOf mayDefine beforeRoom defineRefusal storeAfter bodyInEither lookRefusal findRefusal lookedUp placed commandPiece itemPiece pieceAt walked entering callStretch started expandRefusal expandTold expandOut
 all-as-shown = refl

@@ -29,15 +29,15 @@ use Rattle.pixels.specs.Marks.{place, laid, moved, rowEnd}
 use Rattle.pixels.specs.Writes.{pixels, characterMarks, leftAfter, rasterMarks, runMarks, runTotal, written, surfaceAfter, drawRaster, rasterSurface, drawRuns, runsSurface}
 use Rattle.pixel_refusals.specs.Tests.{isSurface, pixelCharacters, rasterNumbers, rasterCharacters, runNumbers, writeRefusal, rasterRefusal, runRefusal}
 use Rattle.balance.specs.Balance.{after, returned, ran}
-use Rattle.macros.specs.Store.{isStoreEntry, threeBytes, encoded, wellFormed, keep, bodyOf, bodyInEither, lookRefusal, findRefusal, lookedUp, placed, hasBody, bodyByHeaders, lookedByHeaders}
+use Rattle.macros.specs.Store.{isStoreEntry, threeBytes, encoded, wellFormed, keep, bodyOf, bodyInEither, lookRefusal, findRefusal, lookedUp, placed, bodyPointer, hasBody, partByHeaders, placedByHeaders, lookedByHeaders}
 use Rattle.macros.specs.Store.{frontEntries}
 use Rattle.defining.specs.Defining.{mayDefine, beforeRoom, defineRefusal, storeAfter}
-use Rattle.pieces.specs.Pieces.{commandPiece, pieceOf, pieceAt}
+use Rattle.pieces.specs.Pieces.{commandPiece, itemPiece, pieceAt}
 use Rattle.expansion.specs.Expansion.{walked, entering, callStretch, started, expandRefusal, expandTold, expandOut}
 use Rattle.pixel_calls.specs.Fields.{beamIn, fieldsOf}
 use Rattle.parameters.specs.Numbers.{fourOf}
 use Rattle.stream_calls.specs.Slots.{keptIn, twoOf, itemKept, itemNumber, kindSlot, itemFields, itemValues}
-use Rattle.stream_calls.specs.Given.{ofKind, ofFound, commandGiven, keptAfter}
+use Rattle.stream_calls.specs.Given.{ofKind, ofTabled, commandGiven, keptAfter}
 use Rattle.macro_calls.specs.Slots.{placeFields, countFields}
 use Rattle.sheet.specs.Rows.{Wrong, differs, joined}
 use Rattle.sheet.specs.WrongBytes.{column-of-bytes}
@@ -63,8 +63,8 @@ unfolding every number valueOr placeOf endsAfter allAfter byteAt pairAt isItself
     isValid settled makeFresh bitsFrom setBits cornersOn framed setViewport setBeam stepped makeStep place laid moved rowEnd pixels
     characterMarks leftAfter rasterMarks runMarks runTotal isSurface pixelCharacters rasterNumbers rasterCharacters runNumbers writeRefusal
     rasterRefusal runRefusal written surfaceAfter drawRaster rasterSurface drawRuns runsSurface after returned ran threeBytes encoded isStoreEntry
-    frontEntries wellFormed keep bodyOf mayDefine beforeRoom defineRefusal storeAfter bodyInEither lookRefusal findRefusal lookedUp placed
-    hasBody bodyByHeaders lookedByHeaders commandPiece pieceOf pieceAt walked entering callStretch started expandRefusal expandTold expandOut
-    beamIn fieldsOf keptIn twoOf itemKept itemNumber kindSlot itemFields fourOf itemValues ofKind ofFound commandGiven keptAfter placeFields
+    frontEntries wellFormed keep bodyOf mayDefine beforeRoom defineRefusal storeAfter bodyInEither lookRefusal findRefusal lookedUp placed bodyPointer
+    hasBody partByHeaders placedByHeaders lookedByHeaders commandPiece itemPiece pieceAt walked entering callStretch started expandRefusal expandTold expandOut
+    beamIn fieldsOf keptIn twoOf itemKept itemNumber kindSlot itemFields fourOf itemValues ofKind ofTabled commandGiven keptAfter placeFields
     countFields
 none-as-wrong = refl

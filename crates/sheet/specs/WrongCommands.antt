@@ -7,19 +7,12 @@ use Rattle.refusals.specs.Answers.{Answer, done, refused}
 use Rattle.memory.specs.declared.Remembered.{Remembered}
 use Rattle.memory.specs.Memory.{freshMemory}
 use Rattle.wire.specs.Sending.{afterWrite}
-use Rattle.table.specs.declared.Kind.{Kind}
-use Rattle.table.specs.declared.Kind.the-variants as K
-use Rattle.table.specs.declared.Found.{Found}
-use Rattle.table.specs.declared.Found.the-variants.{Is, NoKind}
-use Rattle.table.specs.Table.{begins, kindOf}
+use Rattle.table.specs.Table.{ParameterKind, Tabled, inTable, notInTable, begins, kindOf}
+use Rattle.table.specs.Table as K
 use Rattle.parameters.specs.declared.Parameters.{Parameters}
 use Rattle.parameters.specs.declared.Parameters.the-variants as P
 use Rattle.parameters.specs.declared.Entry.the-variants.{AnInteger, ACharacter}
-use Rattle.parameters.specs.declared.Tail.{Tail}
-use Rattle.parameters.specs.declared.Tail.the-variants.{NoList, ListOf}
-use Rattle.parameters.specs.declared.LastPoint.{LastPoint}
-use Rattle.parameters.specs.declared.LastPoint.the-variants.{NoPoint, Last}
-use Rattle.parameters.specs.Shapes.{shapeOf, valuesOf, tailOf, lastPoint}
+use Rattle.parameters.specs.Shapes.{Tailed, noList, listOf, Pointed, noPoint, last, shapeOf, valuesOf, tailOf, lastPoint}
 use Rattle.parameters.specs.Looking.{Parsed, parametersAt, afterLook}
 use Rattle.commands.specs.declared.Command.{Command}
 use Rattle.commands.specs.Reading.{ToldCommand, commandAt, told, afterEntries}
@@ -38,17 +31,17 @@ wrong-begins-command =
     ∷ []
 
 -- the number of the kind, or 0 where the letters are no command's
-abbrev foundIs : Found → List ℕ
-foundIs (Is k) = (kindNumber k ∷ [])
-foundIs NoKind = (0 ∷ [])
+abbrev tabledIs : Tabled → List ℕ
+tabledIs (inTable k) = (kindNumber k ∷ [])
+tabledIs notInTable = (0 ∷ [])
 
 abbrev pub wrong-kind-of : List Wrong
 wrong-kind-of =
     -- "If an op letter below differs from the summary table of document 000, the table wins": NL, and not NX
-    but (foundIs (kindOf 78 88)) (1 ∷ [])
-    ∷ but (foundIs (kindOf 78 76)) (0 ∷ [])
+    but (tabledIs (kindOf 78 88)) (1 ∷ [])
+    ∷ but (tabledIs (kindOf 78 76)) (0 ∷ [])
     -- "two characters, each 32 to 127: IQ"
-    ∷ but (foundIs (kindOf 73 81)) (7 ∷ [])
+    ∷ but (tabledIs (kindOf 73 81)) (7 ∷ [])
     ∷ []
 
 -- ---- parameters
@@ -58,27 +51,27 @@ abbrev parsedIs : Answer Parsed → List ℕ
 parsedIs (done p) = (0 ∷ p .start ∷ p .count ∷ p .next ∷ p .kept .point .x ∷ p .kept .point .y ∷ []) ++ signsOf (numbersOf (p .values))
 parsedIs (refused e p) = (e ∷ p ∷ [])
 
-abbrev looking : Kind → List ℕ → List ℤ → List ℕ → Wrong
+abbrev looking : ParameterKind → List ℕ → List ℤ → List ℕ → Wrong
 looking k s list wrong = but (parsedIs (parametersAt freshMemory (shapeOf k) s 0) ++ signsOf (afterLook s (parametersAt freshMemory (shapeOf k) s 0) list)) wrong
 
 abbrev pub wrong-look-at : List Wrong
 wrong-look-at =
     -- parameters come in their order
-    looking K.TwoIntegers (49 ∷ 50 ∷ []) [] (0 ∷ 0 ∷ 0 ∷ 2 ∷ 0 ∷ 0 ∷ 0 ∷ 2 ∷ 0 ∷ 1 ∷ [])
+    looking K.twoIntegers (49 ∷ 50 ∷ []) [] (0 ∷ 0 ∷ 0 ∷ 2 ∷ 0 ∷ 0 ∷ 0 ∷ 2 ∷ 0 ∷ 1 ∷ [])
     -- "The others .. are then those of the last point": the second corner follows from the first, not from what was remembered before it
-    ∷ looking K.TwoPoints (96 ∷ 33 ∷ 64 ∷ 65 ∷ []) [] (0 ∷ 0 ∷ 0 ∷ 4 ∷ 4 ∷ 0 ∷ 0 ∷ 128 ∷ 0 ∷ 0 ∷ 0 ∷ 4 ∷ 0 ∷ 0 ∷ [])
+    ∷ looking K.twoPoints (96 ∷ 33 ∷ 64 ∷ 65 ∷ []) [] (0 ∷ 0 ∷ 0 ∷ 4 ∷ 4 ∷ 0 ∷ 0 ∷ 128 ∷ 0 ∷ 0 ∷ 0 ∷ 4 ∷ 0 ∷ 0 ∷ [])
     -- "an array is a count and that many integers": each stands behind the one before it
-    ∷ looking K.AnArray (50 ∷ 49 ∷ 51 ∷ []) (pos 9 ∷ pos 9 ∷ []) (0 ∷ 1 ∷ 2 ∷ 2 ∷ 0 ∷ 0 ∷ 0 ∷ 1 ∷ 0 ∷ 1 ∷ [])
+    ∷ looking K.anArray (50 ∷ 49 ∷ 51 ∷ []) (pos 9 ∷ pos 9 ∷ []) (0 ∷ 1 ∷ 2 ∷ 2 ∷ 0 ∷ 0 ∷ 0 ∷ 1 ∷ 0 ∷ 1 ∷ [])
     -- "7: lent list .. too short for the whole result": no entry of two goes to a list of one, and it is not touched
-    ∷ looking K.AnArray (50 ∷ 49 ∷ 51 ∷ []) (pos 9 ∷ []) (0 ∷ 1 ∷ 2 ∷ 3 ∷ 0 ∷ 0 ∷ 0 ∷ 1 ∷ [])
-    ∷ looking K.AnArray (50 ∷ 49 ∷ 51 ∷ []) (pos 9 ∷ []) (0 ∷ 1 ∷ 2 ∷ 3 ∷ 0 ∷ 0 ∷ 0 ∷ 0 ∷ [])
+    ∷ looking K.anArray (50 ∷ 49 ∷ 51 ∷ []) (pos 9 ∷ []) (0 ∷ 1 ∷ 2 ∷ 3 ∷ 0 ∷ 0 ∷ 0 ∷ 1 ∷ [])
+    ∷ looking K.anArray (50 ∷ 49 ∷ 51 ∷ []) (pos 9 ∷ []) (0 ∷ 1 ∷ 2 ∷ 3 ∷ 0 ∷ 0 ∷ 0 ∷ 0 ∷ [])
     ∷ []
 
 -- 0 for no list, 1 for one of integers, 2 for one of characters
-abbrev tailIs : Tail → List ℕ
-tailIs NoList = (0 ∷ [])
-tailIs (ListOf AnInteger) = (1 ∷ [])
-tailIs (ListOf ACharacter) = (2 ∷ [])
+abbrev tailIs : Tailed → List ℕ
+tailIs noList = (0 ∷ [])
+tailIs (listOf AnInteger) = (1 ∷ [])
+tailIs (listOf ACharacter) = (2 ∷ [])
 
 abbrev pub wrong-tail-of : List Wrong
 wrong-tail-of =
@@ -90,9 +83,9 @@ wrong-tail-of =
     ∷ []
 
 -- the point, or nothing
-abbrev lastIs : LastPoint → List ℕ
-lastIs NoPoint = []
-lastIs (Last p) = point-is p
+abbrev lastIs : Pointed → List ℕ
+lastIs noPoint = []
+lastIs (last p) = point-is p
 
 abbrev pub wrong-last-point : List Wrong
 wrong-last-point =
@@ -140,8 +133,8 @@ wrong-read-command =
 abbrev pub wrong-kind-number : List Wrong
 wrong-kind-number =
     -- each kind has its own number, that of the header
-    but (kindNumber K.AReal ∷ []) (5 ∷ [])
-    ∷ but (kindNumber K.TwoCharacters ∷ []) (12 ∷ [])
+    but (kindNumber K.aReal ∷ []) (5 ∷ [])
+    ∷ but (kindNumber K.twoCharacters ∷ []) (12 ∷ [])
     ∷ []
 
 abbrev pub wrong-kind-of-parameters : List Wrong

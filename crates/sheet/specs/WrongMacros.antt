@@ -4,11 +4,9 @@ use mathlib.Core.List.{List, [], _∷_, _++_, map}
 use lib.ListN.{length, replicate}
 use lib.IntN.{ℤ, pos}
 use Rattle.memory.specs.Memory.{freshMemory}
-use Rattle.macros.specs.Store.{Entry, threeBytes, encoded, sizeOf, below, entries, wellFormed, lookedUp, findRefusal, Placed, placed, lookedByHeaders}
+use Rattle.macros.specs.Store.{Entry, threeBytes, encoded, sizeOf, below, entries, wellFormed, lookedUp, findRefusal, Placed, placed, bodyPointer, placedByHeaders, lookedByHeaders}
 use Rattle.defining.specs.Defining.{defineRefusal, storeAfter}
-use Rattle.pieces.specs.declared.Piece.{Piece}
-use Rattle.pieces.specs.declared.Piece.the-variants.{End, Copied, Called, Refused}
-use Rattle.pieces.specs.Pieces.{pieceAt}
+use Rattle.pieces.specs.Pieces.{Pieced, end, copied, called, trouble, pieceAt}
 use Rattle.expansion.specs.Expansion.{ExpansionAnswer, expandTold, expandOut}
 use Rattle.macro_calls.specs.Slots.{placeFields, countFields}
 use Rattle.sheet.specs.Rows.{Wrong, but, joined, truth, signs}
@@ -75,6 +73,12 @@ wrong-define =
     ∷ but (defineRefusal threeBytes (replicate 259 0) (pos 5) (replicate 256 (pos 1)) ∷ []) (8 ∷ [])
     ∷ []
 
+-- where the part points, the volatile store being at the front of block 1 and the saved one at that of block 2: the block, and the place in it
+abbrev pointed : Placed → List ℕ → Wrong
+pointed place wrong =
+    let p : ℕ × ℕ = bodyPointer place (1, 0) (2, 0) in
+    but (p .0 ∷ p .1 ∷ []) wrong
+
 abbrev pub wrong-look-up : List Wrong
 wrong-look-up =
     -- "the body as part of the volatile store if it is there"
@@ -83,6 +87,12 @@ wrong-look-up =
     ∷ but (lookedUp threeBytes five [] (pos 4)) (72 ∷ 105 ∷ [])
     -- "a malformed store .. gives an empty part": the saved one too
     ∷ but (lookedUp threeBytes five (1 ∷ []) (pos 5)) (72 ∷ 105 ∷ [])
+    -- "as part of the volatile store if it is there", where both hold equal bodies too
+    ∷ pointed (placed threeBytes five five (pos 5)) (2 ∷ 3 ∷ [])
+    -- "otherwise as part of the saved store"
+    ∷ pointed (placed threeBytes [] five (pos 5)) (1 ∷ 3 ∷ [])
+    -- of the body, and not of its entry
+    ∷ pointed (placed threeBytes five five (pos 5)) (1 ∷ 0 ∷ [])
     ∷ []
 
 -- the refusal, the store, where the body begins, its length
@@ -126,18 +136,19 @@ wrong-look-by-headers =
     ∷ but (lookedByHeaders threeBytes ((0 ∷ 8 ∷ 1 ∷ 33 ∷ []) ++ five) [] (pos 5)) []
     -- the volatile store first
     ∷ but (lookedByHeaders threeBytes five other (pos 5)) (33 ∷ [])
+    ∷ pointed (placedByHeaders threeBytes five five (pos 5)) (2 ∷ 3 ∷ [])
     -- "9 bits of body length": a body of 256 bytes is not empty
     ∷ but (lookedByHeaders threeBytes longest [] (pos 5)) []
     ∷ []
 
 -- ---- pieces
 
--- 0 none is left; 1 copied: the next start, the remembered point; 2 called: the number, the next start, the remembered point; 3 refused
-abbrev pieceIs : Piece → List ℕ
-pieceIs End = (0 ∷ [])
-pieceIs (Copied n k) = (1 ∷ n ∷ k .point .x ∷ k .point .y ∷ [])
-pieceIs (Called v n k) = 2 ∷ (signs v ++ (n ∷ k .point .x ∷ k .point .y ∷ []))
-pieceIs Refused = (3 ∷ [])
+-- 0 none is left; 1 copied: the next start, the remembered point; 2 called: the number, the next start, the remembered point; 3 the trouble's number
+abbrev pieceIs : Pieced → List ℕ
+pieceIs end = (0 ∷ [])
+pieceIs (copied n k) = (1 ∷ n ∷ k .point .x ∷ k .point .y ∷ [])
+pieceIs (called v n k) = 2 ∷ (signs v ++ (n ∷ k .point .x ∷ k .point .y ∷ []))
+pieceIs (trouble e) = (3 ∷ e ∷ [])
 
 abbrev piece : List ℕ → ℕ → List ℕ → Wrong
 piece body start wrong = but (pieceIs (pieceAt freshMemory body start)) wrong
@@ -155,7 +166,7 @@ wrong-piece-at =
     -- a text byte takes one byte
     ∷ piece (65 ∷ []) 0 (1 ∷ 0 ∷ 0 ∷ 0 ∷ [])
     -- "A count is an integer 0..256": an array of 256 is no trouble
-    ∷ piece ((27 ∷ 82 ∷ 68 ∷ 80 ∷ 48 ∷ []) ++ replicate 256 48) 0 (3 ∷ [])
+    ∷ piece ((27 ∷ 82 ∷ 68 ∷ 80 ∷ 48 ∷ []) ++ replicate 256 48) 0 (3 ∷ 17 ∷ [])
     ∷ []
 
 -- ---- expansion: the refusal, bytes written, macros entered, and the output

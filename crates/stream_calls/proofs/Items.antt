@@ -8,6 +8,7 @@ use Rattle.refusals.specs.declared.Refusal.{Refusal}
 use Rattle.refusals.specs.Refusals.{numberOf}
 use Rattle.memory.specs.declared.Remembered.{Remembered}
 use Rattle.table.specs.declared.Kind.{Kind}
+use Rattle.table.specs.Table.{kindMeant}
 use Rattle.parameters.specs.declared.Parameters.{Parameters}
 use Rattle.parameters.specs.declared.Parameters.the-variants.{OneInteger, TwoIntegers, ThreeIntegers, OnePoint, TwoPoints, AReal, AString, AnArray, IntegerThenArray, IntegerThenString, TwoCharacters}
 use Rattle.parameters.specs.Shapes.{valuesOf, tailOf}
@@ -87,6 +88,6 @@ next-item point bytes start list {k = k} {i = i} ek e j el h =
 
 -- ---- a command's slots, as the code numbers its kind
 
-pub command-slots : (c : Command) {kind : Kind} {x : ℕ} (k n : ℕ) → kind ≡ kindFor (c .parameters) → x ≡ kindNumber kind
+pub command-slots : (c : Command) (kind : Kind) {x : ℕ} (k n : ℕ) → kindMeant kind ≡ kindFor (c .parameters) → x ≡ kindNumber (kindMeant kind)
     → 2 ∷ n ∷ 0 ∷ c .first ∷ c .second ∷ x ∷ k ∷ [] ≡ commandFields (c .first) (c .second) (kindNumber (kindFor (c .parameters))) k n
-command-slots c k n ek ex = ap (λ (y : ℕ). 2 ∷ n ∷ 0 ∷ c .first ∷ c .second ∷ y ∷ k ∷ []) (ex ∙ ap kindNumber ek)
+command-slots c kind k n ek ex = ap (λ (y : ℕ). 2 ∷ n ∷ 0 ∷ c .first ∷ c .second ∷ y ∷ k ∷ []) (ex ∙ ap kindNumber ek)

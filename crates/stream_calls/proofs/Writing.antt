@@ -26,7 +26,7 @@ use Rattle.table.specs.declared.Found.{Found}
 use Rattle.table.specs.declared.Found.the-variants.{Is, NoKind}
 use Rattle.table.specs.declared.Kind.{Kind}
 use Rattle.table.specs.declared.Kind.the-variants as K
-use Rattle.table.specs.Table.{kindOf}
+use Rattle.table.specs.Table.{kindMeant, kindOf, foundOf}
 use Rattle.parameters.specs.declared.Parameters.{Parameters}
 use Rattle.parameters.specs.declared.Parameters.the-variants.{OneInteger, TwoIntegers, ThreeIntegers, OnePoint, TwoPoints, AReal, TwoCharacters, AString, AnArray, IntegerThenString, IntegerThenArray}
 use Rattle.parameters.specs.Shapes.{valuesOf}
@@ -34,55 +34,55 @@ use Rattle.commands.specs.declared.Command.{Command}
 use Rattle.writable.specs.Writable.{kindFor, kindNumber, isKind, isCommand}
 use Rattle.writing.specs.Writing.{afterValues, spellCommand, writeFitting, writeCommand}
 use Rattle.stream_calls.specs.Slots.{keptIn, twoOf}
-use Rattle.stream_calls.specs.Given.{ofKind, ofFound, commandGiven, keptAfter, Writes, WrittenCommand}
+use Rattle.stream_calls.specs.Given.{ofKind, ofTabled, commandGiven, keptAfter, Writes, WrittenCommand}
 use Rattle.stream_calls.specs.declared.Sent.{Sent}
 
 -- ---- the parameters of a kind
 
 module _ {k : Kind} (vs : List ℤ) {a b c d : ℤ} (ea : a ≡ getD vs 0 (pos 0)) (eb : b ≡ getD vs 1 (pos 0)) (ec : c ≡ getD vs 2 (pos 0)) (ed : d ≡ getD vs 3 (pos 0)) where
-  pub kind-one-integer : k ≡ K.OneInteger → OneInteger a ≡ ofKind k vs
+  pub kind-one-integer : k ≡ K.OneInteger → OneInteger a ≡ ofKind (kindMeant k) vs
   unfolding ofKind
   kind-one-integer e = rw (e, ea)
 
-  pub kind-two : k ≡ K.TwoIntegers → TwoIntegers a b ≡ ofKind k vs
+  pub kind-two : k ≡ K.TwoIntegers → TwoIntegers a b ≡ ofKind (kindMeant k) vs
   unfolding ofKind
   kind-two e = rw (e, ea, eb)
 
-  pub kind-three : k ≡ K.ThreeIntegers → ThreeIntegers a b c ≡ ofKind k vs
+  pub kind-three : k ≡ K.ThreeIntegers → ThreeIntegers a b c ≡ ofKind (kindMeant k) vs
   unfolding ofKind
   kind-three e = rw (e, ea, eb, ec)
 
-  pub kind-real : k ≡ K.AReal → AReal (record { mantissa = a; exponent = b }) ≡ ofKind k vs
+  pub kind-real : k ≡ K.AReal → AReal (record { mantissa = a; exponent = b }) ≡ ofKind (kindMeant k) vs
   unfolding ofKind
   kind-real e = rw (e, ea, eb)
 
-  pub kind-string : k ≡ K.AString → AString ≡ ofKind k vs
+  pub kind-string : k ≡ K.AString → AString ≡ ofKind (kindMeant k) vs
   unfolding ofKind
   kind-string e = rw e
 
-  pub kind-array : k ≡ K.AnArray → AnArray ≡ ofKind k vs
+  pub kind-array : k ≡ K.AnArray → AnArray ≡ ofKind (kindMeant k) vs
   unfolding ofKind
   kind-array e = rw e
 
-  pub kind-integer-then-array : k ≡ K.IntegerThenArray → IntegerThenArray a ≡ ofKind k vs
+  pub kind-integer-then-array : k ≡ K.IntegerThenArray → IntegerThenArray a ≡ ofKind (kindMeant k) vs
   unfolding ofKind
   kind-integer-then-array e = rw (e, ea)
 
-  pub kind-integer-then-string : k ≡ K.IntegerThenString → IntegerThenString a ≡ ofKind k vs
+  pub kind-integer-then-string : k ≡ K.IntegerThenString → IntegerThenString a ≡ ofKind (kindMeant k) vs
   unfolding ofKind
   kind-integer-then-string e = rw (e, ea)
 
-  pub kind-characters : k ≡ K.TwoCharacters → TwoCharacters a b ≡ ofKind k vs
+  pub kind-characters : k ≡ K.TwoCharacters → TwoCharacters a b ≡ ofKind (kindMeant k) vs
   unfolding ofKind
   kind-characters e = rw (e, ea, eb)
 
   pub kind-two-points : SFits w32 a → SFits w32 b → SFits w32 c → SFits w32 d → {p q : Point} → p ≡ pointGiven (toZ w32 (ofZ w32 a)) (toZ w32 (ofZ w32 b))
-      → q ≡ pointGiven (toZ w32 (ofZ w32 c)) (toZ w32 (ofZ w32 d)) → k ≡ K.TwoPoints → TwoPoints p q ≡ ofKind k vs
+      → q ≡ pointGiven (toZ w32 (ofZ w32 c)) (toZ w32 (ofZ w32 d)) → k ≡ K.TwoPoints → TwoPoints p q ≡ ofKind (kindMeant k) vs
   unfolding ofKind
   kind-two-points fa fb fc fd ep eq e = rw (e, point-given a b fa fb ep, point-given c d fc fd eq, ea, eb, ec, ed)
 
 pub kind-one-point : {k : Kind} (vs : List ℤ) {a b : ℤ} → a ≡ getD vs 0 (pos 0) → b ≡ getD vs 1 (pos 0) → SFits w32 a → SFits w32 b
-    → {p : Point} → p ≡ pointGiven (toZ w32 (ofZ w32 a)) (toZ w32 (ofZ w32 b)) → k ≡ K.OnePoint → OnePoint p ≡ ofKind k vs
+    → {p : Point} → p ≡ pointGiven (toZ w32 (ofZ w32 a)) (toZ w32 (ofZ w32 b)) → k ≡ K.OnePoint → OnePoint p ≡ ofKind (kindMeant k) vs
 unfolding ofKind
 kind-one-point vs {a} {b} ea eb fa fb ep e = rw (e, point-given a b fa fb ep, ea, eb)
 
@@ -101,7 +101,7 @@ hasPoint K.IntegerThenArray = false
 hasPoint K.IntegerThenString = false
 hasPoint K.TwoCharacters = false
 
-pointless : (kept : Remembered) (k : Kind) (vs : List ℤ) → hasPoint k ≡ false → kept ≡ afterValues kept (valuesOf (ofKind k vs))
+pointless : (kept : Remembered) (k : Kind) (vs : List ℤ) → hasPoint k ≡ false → kept ≡ afterValues kept (valuesOf (ofKind (kindMeant k) vs))
 unfolding ofKind afterValues
 pointless kept K.OneInteger vs h = refl
 pointless kept K.TwoIntegers vs h = refl
@@ -117,25 +117,25 @@ pointless kept K.TwoCharacters vs h = refl
 
 module _ (kept : Remembered) {k : Kind} (vs : List ℤ) where
   -- of a kind without points it is what was remembered before
-  pub kind-keeps : {q : Kind} → k ≡ q → hasPoint q ≡ false → kept ≡ afterValues kept (valuesOf (ofKind k vs))
+  pub kind-keeps : {q : Kind} → k ≡ q → hasPoint q ≡ false → kept ≡ afterValues kept (valuesOf (ofKind (kindMeant k) vs))
   kind-keeps {q = q} e h = rw e (pointless kept q vs h)
 
   module _ {a b : ℤ} (fa : SFits w32 a) (fb : SFits w32 b) {p : Point} (ep : p ≡ pointGiven (toZ w32 (ofZ w32 a)) (toZ w32 (ofZ w32 b))) {m : Remembered} (em : m ≡ remember kept p) where
-    pub point-kept : a ≡ getD vs 0 (pos 0) → b ≡ getD vs 1 (pos 0) → k ≡ K.OnePoint → m ≡ afterValues kept (valuesOf (ofKind k vs))
+    pub point-kept : a ≡ getD vs 0 (pos 0) → b ≡ getD vs 1 (pos 0) → k ≡ K.OnePoint → m ≡ afterValues kept (valuesOf (ofKind (kindMeant k) vs))
     unfolding ofKind afterValues
     point-kept ea eb e = em ∙ rw (e, point-given a b fa fb ep, ea, eb)
 
-    pub second-point-kept : a ≡ getD vs 2 (pos 0) → b ≡ getD vs 3 (pos 0) → k ≡ K.TwoPoints → m ≡ afterValues kept (valuesOf (ofKind k vs))
+    pub second-point-kept : a ≡ getD vs 2 (pos 0) → b ≡ getD vs 3 (pos 0) → k ≡ K.TwoPoints → m ≡ afterValues kept (valuesOf (ofKind (kindMeant k) vs))
     unfolding ofKind afterValues
     second-point-kept ea eb e = em ∙ rw (e, point-given a b fa fb ep, ea, eb)
 
-pub behind-given : (kept : Remembered) (k : Kind) (vs : List ℤ) {ps : Parameters} {m : Remembered} → ps ≡ ofKind k vs → m ≡ afterValues kept (valuesOf (ofKind k vs)) → m ≡ afterValues kept (valuesOf ps)
+pub behind-given : (kept : Remembered) (k : Kind) (vs : List ℤ) {ps : Parameters} {m : Remembered} → ps ≡ ofKind (kindMeant k) vs → m ≡ afterValues kept (valuesOf (ofKind (kindMeant k) vs)) → m ≡ afterValues kept (valuesOf ps)
 behind-given kept k vs e j = rw e j
 
 -- ---- the command, by what the table has for its letters
 
 -- numbers that were read for a kind make parameters of that kind
-kind-kept : (k : Kind) (vs : List ℤ) → kindFor (ofKind k vs) ≡ k
+kind-kept : (k : Kind) (vs : List ℤ) → kindFor (ofKind (kindMeant k) vs) ≡ kindMeant k
 unfolding ofKind
 kind-kept K.OneInteger vs = refl
 kind-kept K.TwoIntegers vs = refl
@@ -149,15 +149,15 @@ kind-kept K.IntegerThenArray vs = refl
 kind-kept K.IntegerThenString vs = refl
 kind-kept K.TwoCharacters vs = refl
 
-module _ (kept : Remembered) (first second : ℕ) (vs es : List ℤ) (room : ℕ) {f : Found} (ef : f ≡ kindOf first second) where
-  module _ {kind : Kind} (g : f ≡ Is kind) {ps : Parameters} (ep : ps ≡ ofKind kind vs) where
+module _ (kept : Remembered) (first second : ℕ) (vs es : List ℤ) (room : ℕ) {f : Found} (ef : foundOf f ≡ kindOf first second) where
+  module _ {kind : Kind} (g : f ≡ Is kind) {ps : Parameters} (ep : ps ≡ ofKind (kindMeant kind) vs) where
     known : record { first = first; second = second; parameters = ps } ≡ commandGiven first second vs
-    unfolding commandGiven ofFound
+    unfolding commandGiven ofTabled foundOf
     known = rw (sym ef, g, ep)
 
     fitting : isKind first second ps ≡ true
-    unfolding isKind
-    fitting = rw (sym ef, g, ep, kind-kept kind vs) (eq-eqb (kindNumber kind) (kindNumber kind) refl)
+    unfolding isKind foundOf
+    fitting = rw (sym ef, g, ep, kind-kept kind vs) (eq-eqb (kindNumber (kindMeant kind)) (kindNumber (kindMeant kind)) refl)
 
     same : writeFitting kept (record { first = first; second = second; parameters = ps }) es room ≡ writeCommand kept (commandGiven first second vs) es room
     unfolding isCommand
@@ -169,7 +169,7 @@ module _ (kept : Remembered) (first second : ℕ) (vs es : List ℤ) (room : ℕ
 
   module _ (g : f ≡ NoKind) where
     none : refused 8 0 ≡ writeCommand kept (commandGiven first second vs) es room
-    unfolding commandGiven isCommand isKind writeIf
+    unfolding commandGiven isCommand isKind foundOf writeIf
     none = rw (sym ef, g)
 
     pub unknown-writes : (out : List ℕ) → Writes kept (commandGiven first second vs) es out (writeCommand kept (commandGiven first second vs) es room) (record { answer = Written.Refused NotValid; kept = kept }) out

@@ -6,11 +6,8 @@ use lib.ListN.{length, getD}
 use lib.IntN.{ℤ, pos}
 use Rattle.memory.specs.declared.Remembered.{Remembered}
 use Rattle.refusals.specs.Answers.{Answer, number, valueOr}
-use Rattle.table.specs.declared.Found.{Found}
-use Rattle.table.specs.declared.Found.the-variants.{Is, NoKind}
-use Rattle.table.specs.declared.Kind.{Kind}
-use Rattle.table.specs.declared.Kind.the-variants as K
-use Rattle.table.specs.Table.{kindOf}
+use Rattle.table.specs.Table.{ParameterKind, Tabled, inTable, notInTable, kindOf}
+use Rattle.table.specs.Table as K
 use Rattle.coordinates.specs.Coordinates.{pointGiven}
 use Rattle.parameters.specs.declared.Parameters.{Parameters}
 use Rattle.parameters.specs.declared.Parameters.the-variants.{OneInteger, TwoIntegers, ThreeIntegers, OnePoint, TwoPoints, AReal, TwoCharacters, AString, AnArray, IntegerThenString, IntegerThenArray}
@@ -24,26 +21,26 @@ use Rattle.stream_calls.specs.Slots.{keptIn, twoOf}
 abbrev at : List ℤ → ℕ → ℤ
 at vs i = getD vs i (pos 0)
 
-unfoldable pub ofKind : Kind → List ℤ → Parameters
-ofKind K.OneInteger vs = OneInteger (at vs 0)
-ofKind K.TwoIntegers vs = TwoIntegers (at vs 0) (at vs 1)
-ofKind K.ThreeIntegers vs = ThreeIntegers (at vs 0) (at vs 1) (at vs 2)
-ofKind K.OnePoint vs = OnePoint (pointGiven (at vs 0) (at vs 1))
-ofKind K.TwoPoints vs = TwoPoints (pointGiven (at vs 0) (at vs 1)) (pointGiven (at vs 2) (at vs 3))
-ofKind K.AReal vs = AReal (record { mantissa = at vs 0; exponent = at vs 1 })
-ofKind K.AString vs = AString
-ofKind K.AnArray vs = AnArray
-ofKind K.IntegerThenArray vs = IntegerThenArray (at vs 0)
-ofKind K.IntegerThenString vs = IntegerThenString (at vs 0)
-ofKind K.TwoCharacters vs = TwoCharacters (at vs 0) (at vs 1)
+unfoldable pub ofKind : ParameterKind → List ℤ → Parameters
+ofKind K.oneInteger vs = OneInteger (at vs 0)
+ofKind K.twoIntegers vs = TwoIntegers (at vs 0) (at vs 1)
+ofKind K.threeIntegers vs = ThreeIntegers (at vs 0) (at vs 1) (at vs 2)
+ofKind K.onePoint vs = OnePoint (pointGiven (at vs 0) (at vs 1))
+ofKind K.twoPoints vs = TwoPoints (pointGiven (at vs 0) (at vs 1)) (pointGiven (at vs 2) (at vs 3))
+ofKind K.aReal vs = AReal (record { mantissa = at vs 0; exponent = at vs 1 })
+ofKind K.aString vs = AString
+ofKind K.anArray vs = AnArray
+ofKind K.integerThenArray vs = IntegerThenArray (at vs 0)
+ofKind K.integerThenString vs = IntegerThenString (at vs 0)
+ofKind K.twoCharacters vs = TwoCharacters (at vs 0) (at vs 1)
 
 -- letters that are no command's are refused whatever their parameters
-unfoldable pub ofFound : Found → List ℤ → Parameters
-ofFound (Is kind) vs = ofKind kind vs
-ofFound NoKind vs = AString
+unfoldable pub ofTabled : Tabled → List ℤ → Parameters
+ofTabled (inTable kind) vs = ofKind kind vs
+ofTabled notInTable vs = AString
 
 unfoldable pub commandGiven : (first second : ℕ) → List ℤ → Command
-commandGiven first second vs = record { first = first; second = second; parameters = ofFound (kindOf first second) vs }
+commandGiven first second vs = record { first = first; second = second; parameters = ofTabled (kindOf first second) vs }
 
 -- the remembered point behind the command; where it is not written, as it was
 unfoldable pub keptAfter : Remembered → Command → Answer ℕ → Remembered

@@ -6,9 +6,7 @@ use lib.ListN.{length, getD}
 use lib.IntN.{ℤ}
 use Rattle.memory.specs.declared.Remembered.{Remembered}
 use Rattle.parameters.specs.declared.Entry.the-variants.{AnInteger, ACharacter}
-use Rattle.parameters.specs.declared.Tail.{Tail}
-use Rattle.parameters.specs.declared.Tail.the-variants.{NoList, ListOf}
-use Rattle.parameters.specs.Shapes.{Value, number, scaled, place}
+use Rattle.parameters.specs.Shapes.{Tailed, noList, listOf, Value, number, scaled, place}
 use Rattle.parameters.specs.Numbers.{noValues, fourOf}
 use Rattle.commands.specs.Reading.{Meaning, ToldCommand}
 use Rattle.stream.specs.Items.{Itemed, nothing, text, command, refusedCommand, refusedCall, itemAt, toldItem, afterItem}
@@ -54,10 +52,10 @@ abbrev pub listKind : (alone behind : ℕ) → List Value → ℕ
 listKind alone behind [] = alone
 listKind alone behind (v ∷ vs) = behind
 
-unfoldable pub kindSlot : List Value → Tail → ℕ
-kindSlot vs NoList = fixedKind vs
-kindSlot vs (ListOf AnInteger) = listKind 8 9 vs
-kindSlot vs (ListOf ACharacter) = listKind 7 10 vs
+unfoldable pub kindSlot : List Value → Tailed → ℕ
+kindSlot vs noList = fixedKind vs
+kindSlot vs (listOf AnInteger) = listKind 8 9 vs
+kindSlot vs (listOf ACharacter) = listKind 7 10 vs
 
 abbrev pub commandFields : (first second kind count next : ℕ) → List ℕ
 commandFields first second kind count next = 2 ∷ next ∷ 0 ∷ first ∷ second ∷ kind ∷ count ∷ []

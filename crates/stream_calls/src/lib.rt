@@ -6,6 +6,7 @@ ghost use Rattle.parameters.specs.Shapes.{valuesOf};
 ghost use Rattle.parameters.specs.Numbers.{fourOf};
 ghost use Rattle.writable.specs.Writable.{kindFor, kindNumber};
 ghost use Rattle.writing.specs.Writing.{afterValues, writeFitting, writeCommand};
+ghost use Rattle.table.specs.Table.{kindMeant};
 ghost use Rattle.stream_calls.specs.Slots.{keptIn, twoOf, commandFields, NextItem};
 ghost use Rattle.stream_calls.specs.Given.{ofKind, commandGiven, Writes, WrittenCommand};
 use commands::Command;
@@ -124,7 +125,7 @@ pub extern "C" fn ardh_next_item(
 // ---- writing a command
 
 fn of_kind(kind: Kind, v: &[i32; 4]) -> Parameters
-    ensures { λ r. ⌜ r ≡ ofKind kind (now (v .entry)) ⌝ }
+    ensures { λ r. ⌜ r ≡ ofKind (kindMeant kind) (now (v .entry)) ⌝ }
 {
     let a = v[0];
     let b = v[1];
@@ -157,7 +158,7 @@ fn of_kind(kind: Kind, v: &[i32; 4]) -> Parameters
 // What is remembered behind a command of a kind. It is made of the numbers: fetched from the parameters, where a point lies across the places
 // of integers, it would wait for them.
 fn kept_behind(kept: Remembered, kind: Kind, v: &[i32; 4]) -> Remembered
-    ensures { λ r. ⌜ r ≡ afterValues kept (valuesOf (ofKind kind (now (v .entry)))) ⌝ }
+    ensures { λ r. ⌜ r ≡ afterValues kept (valuesOf (ofKind (kindMeant kind) (now (v .entry)))) ⌝ }
 {
     let a = v[0];
     let b = v[1];

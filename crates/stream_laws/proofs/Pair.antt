@@ -14,11 +14,8 @@ use Rattle.refusals.proofs.Cases.{by-pick, and-left, and-right, bool-apart}
 use Rattle.refusals.proofs.Many.{every-split}
 use Rattle.wire.specs.Sending.{roomFor, writeAt, writeIf, afterWrite}
 use Rattle.coordinates.specs.Coordinates.{coordinateOf, pointGiven}
-use Rattle.table.specs.declared.Found.{Found}
-use Rattle.table.specs.declared.Found.the-variants.{Is, NoKind}
-use Rattle.table.specs.declared.Kind.{Kind}
-use Rattle.table.specs.declared.Kind.the-variants as K
-use Rattle.table.specs.Table.{kindOf}
+use Rattle.table.specs.Table as K
+use Rattle.table.specs.Table.{ParameterKind, Tabled, inTable, notInTable, kindOf}
 use Rattle.parameters.specs.declared.Parameters.{Parameters}
 use Rattle.parameters.specs.Shapes.{place, valuesOf, tailOf}
 use Rattle.parameters.specs.Numbers.{numbersOf, fourOf}
@@ -27,7 +24,7 @@ use Rattle.writable.specs.Writable.{isKind, isValue, areValues, isTail, fits, i
 use Rattle.writing.specs.Writing.{afterValues, spellCommand, writeCommand}
 use Rattle.stream.specs.Items.{Itemed, command, itemAt, toldItem, afterItem}
 use Rattle.stream_calls.specs.Slots.{keptIn, twoOf, itemKept, itemNumber, itemFields, itemValues, kindSlot, commandFields, NextItem}
-use Rattle.stream_calls.specs.Given.{ofKind, ofFound, commandGiven, keptAfter, WrittenCommand}
+use Rattle.stream_calls.specs.Given.{ofKind, ofTabled, commandGiven, keptAfter, WrittenCommand}
 use Rattle.laws.specs.Laws.{carried, Back, given}
 use Rattle.laws.proofs.Items.{Wrote, wrote, item-back}
 use Rattle.stream_laws.specs.Pair.{taken, ReadBack}
@@ -49,17 +46,17 @@ module _ (x y : ℤ) (h : inside (pointGiven x y) ≡ true) where
   y-given : pos (coordinateOf y) ≡ y
   y-given = coordinate-given y (and-right (leb (coordinateOf x) 4095) (leb (coordinateOf y) 4095) h)
 
-kind-values : (k : Kind) (vs : List ℤ) → areValues (valuesOf (ofKind k vs)) ≡ true → fourOf (valuesOf (ofKind k vs)) ≡ taken (length (numbersOf (valuesOf (ofKind k vs)))) vs
+kind-values : (k : ParameterKind) (vs : List ℤ) → areValues (valuesOf (ofKind k vs)) ≡ true → fourOf (valuesOf (ofKind k vs)) ≡ taken (length (numbersOf (valuesOf (ofKind k vs)))) vs
 unfolding ofKind fourOf taken
-kind-values K.OneInteger vs ok = refl
-kind-values K.TwoIntegers vs ok = refl
-kind-values K.ThreeIntegers vs ok = refl
-kind-values K.OnePoint vs ok =
+kind-values K.oneInteger vs ok = refl
+kind-values K.twoIntegers vs ok = refl
+kind-values K.threeIntegers vs ok = refl
+kind-values K.onePoint vs ok =
     let a = getD vs 0 (pos 0) in
     let b = getD vs 1 (pos 0) in
     let h = every-split isValue (place (pointGiven a b)) [] ok .0 in
     rw (x-given a b h, y-given a b h)
-kind-values K.TwoPoints vs ok =
+kind-values K.twoPoints vs ok =
     let a = getD vs 0 (pos 0) in
     let b = getD vs 1 (pos 0) in
     let d = getD vs 2 (pos 0) in
@@ -67,17 +64,17 @@ kind-values K.TwoPoints vs ok =
     let q = every-split isValue (place (pointGiven a b)) (place (pointGiven d e) ∷ []) ok in
     let g = every-split isValue (place (pointGiven d e)) [] (q .1) .0 in
     rw (x-given a b (q .0), y-given a b (q .0), x-given d e g, y-given d e g)
-kind-values K.AReal vs ok = refl
-kind-values K.AString vs ok = refl
-kind-values K.AnArray vs ok = refl
-kind-values K.IntegerThenArray vs ok = refl
-kind-values K.IntegerThenString vs ok = refl
-kind-values K.TwoCharacters vs ok = refl
+kind-values K.aReal vs ok = refl
+kind-values K.aString vs ok = refl
+kind-values K.anArray vs ok = refl
+kind-values K.integerThenArray vs ok = refl
+kind-values K.integerThenString vs ok = refl
+kind-values K.twoCharacters vs ok = refl
 
-found-values : (f : Found) (vs : List ℤ) → areValues (valuesOf (ofFound f vs)) ≡ true → fourOf (valuesOf (ofFound f vs)) ≡ taken (length (numbersOf (valuesOf (ofFound f vs)))) vs
-unfolding ofFound fourOf taken
-found-values (Is k) vs ok = kind-values k vs ok
-found-values NoKind vs ok = refl
+tabled-values : (f : Tabled) (vs : List ℤ) → areValues (valuesOf (ofTabled f vs)) ≡ true → fourOf (valuesOf (ofTabled f vs)) ≡ taken (length (numbersOf (valuesOf (ofTabled f vs)))) vs
+unfolding ofTabled fourOf taken
+tabled-values (inTable k) vs ok = kind-values k vs ok
+tabled-values notInTable vs ok = refl
 
 -- ---- the answer 0 of a writing
 
@@ -120,7 +117,7 @@ module _ (point : List ℕ) (first second : ℕ) (vs es : List ℤ) (out : List 
 
     values-so : fourOf (valuesOf (c .parameters)) ≡ taken (length (numbersOf (valuesOf (c .parameters)))) vs
     unfolding commandGiven
-    values-so = found-values (kindOf first second) vs values-good
+    values-so = tabled-values (kindOf first second) vs values-good
 
     module _ (before after : List ℕ) (list : List ℤ) (room : length (carried (tailOf (c .parameters)) es) ≤ length list) where
       abbrev bytes : List ℕ

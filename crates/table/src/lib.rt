@@ -1,6 +1,6 @@
 // The table of the 21 commands: their letters, and the kind of parameters of each.
 ghost use mathlib.Core.Path.{_≡_};
-ghost use Rattle.table.specs.Table.{begins, kindOf};
+ghost use Rattle.table.specs.Table.{begins, kindOf, foundOf};
 
 pub enum Kind {
     OneInteger,
@@ -38,7 +38,7 @@ pub fn begins_command(first: u8) -> bool
 }
 
 fn of_k(second: u8) -> Found
-    ensures { λ r. ⌜ r ≡ kindOf 75 second ⌝ }
+    ensures { λ r. ⌜ foundOf r ≡ kindOf 75 second ⌝ }
 {
     match second {
         b'A' => Found::Is(Kind::OneInteger),
@@ -52,7 +52,7 @@ fn of_k(second: u8) -> Found
 }
 
 fn of_l(second: u8) -> Found
-    ensures { λ r. ⌜ r ≡ kindOf 76 second ⌝ }
+    ensures { λ r. ⌜ foundOf r ≡ kindOf 76 second ⌝ }
 {
     match second {
         b'F' => Found::Is(Kind::OnePoint),
@@ -65,7 +65,7 @@ fn of_l(second: u8) -> Found
 }
 
 fn of_r(second: u8) -> Found
-    ensures { λ r. ⌜ r ≡ kindOf 82 second ⌝ }
+    ensures { λ r. ⌜ foundOf r ≡ kindOf 82 second ⌝ }
 {
     match second {
         b'D' => Found::Is(Kind::AnArray),
@@ -79,7 +79,7 @@ fn of_r(second: u8) -> Found
 }
 
 fn of_n(second: u8) -> Found
-    ensures { λ r. ⌜ r ≡ kindOf 78 second ⌝ }
+    ensures { λ r. ⌜ foundOf r ≡ kindOf 78 second ⌝ }
 {
     match second {
         b'L' => Found::Is(Kind::OneInteger),
@@ -89,7 +89,7 @@ fn of_n(second: u8) -> Found
 }
 
 fn of_m(second: u8) -> Found
-    ensures { λ r. ⌜ r ≡ kindOf 77 second ⌝ }
+    ensures { λ r. ⌜ foundOf r ≡ kindOf 77 second ⌝ }
 {
     match second {
         b'R' => Found::Is(Kind::AReal),
@@ -98,7 +98,7 @@ fn of_m(second: u8) -> Found
 }
 
 fn of_i(second: u8) -> Found
-    ensures { λ r. ⌜ r ≡ kindOf 73 second ⌝ }
+    ensures { λ r. ⌜ foundOf r ≡ kindOf 73 second ⌝ }
 {
     match second {
         b'Q' => Found::Is(Kind::TwoCharacters),
@@ -108,7 +108,7 @@ fn of_i(second: u8) -> Found
 
 // The kind of parameters of the command with these letters.
 pub fn kind_of(first: u8, second: u8) -> Found
-    ensures { λ r. ⌜ r ≡ kindOf first second ⌝ }
+    ensures { λ r. ⌜ foundOf r ≡ kindOf first second ⌝ }
 {
     match first {
         b'I' => of_i(second),

@@ -17,28 +17,27 @@ use Rattle.characters.specs.Characters.{isCharacter}
 use Rattle.table.specs.declared.Kind.{Kind}
 use Rattle.table.specs.declared.Found.{Found}
 use Rattle.table.specs.declared.Found.the-variants.{Is, NoKind}
-use Rattle.table.specs.Table.{kindOf}
+use Rattle.table.specs.Table.{kindMeant, kindOf, foundOf}
 use Rattle.parameters.specs.declared.Entry.{Entry}
 use Rattle.parameters.specs.declared.Entry.the-variants.{AnInteger, ACharacter}
 use Rattle.parameters.specs.declared.Parameters.{Parameters}
 use Rattle.parameters.specs.declared.Parameters.the-variants.{OneInteger, TwoIntegers, ThreeIntegers, OnePoint, TwoPoints, AReal, TwoCharacters, AString, AnArray, IntegerThenString, IntegerThenArray}
 use Rattle.parameters.specs.declared.Real.{Real}
 use Rattle.parameters.specs.declared.Tail.{Tail}
-use Rattle.parameters.specs.declared.Tail.the-variants.{ListOf}
-use Rattle.parameters.specs.Shapes.{valuesOf, tailOf}
+use Rattle.parameters.specs.Shapes.{listOf, tailMeant, valuesOf, tailOf}
 use Rattle.commands.specs.declared.Command.{Command}
 use Rattle.writable.specs.Writable.{kindFor, kindNumber, isKind, isEntry, areEntries, isValue, areValues, isTail, fits, isCommand}
 
 -- ---- letters
 
-module _ (a b : ℕ) (ps : Parameters) {f : Found} (ef : f ≡ kindOf a b) where
+module _ (a b : ℕ) (ps : Parameters) {f : Found} (ef : foundOf f ≡ kindOf a b) where
   pub no-kind : f ≡ NoKind → false ≡ isKind a b ps
-  unfolding isKind
+  unfolding isKind foundOf
   no-kind g = rw (← ef, g)
 
-  pub same-kind : {k j : Kind} {m n : ℕ} → f ≡ Is k → m ≡ kindNumber k → j ≡ kindFor ps → n ≡ kindNumber j → eqb m n ≡ isKind a b ps
-  unfolding isKind
-  same-kind g em ej en = rw (em, en, ej, ← ef, g)
+  pub same-kind : (j : Kind) {k : Kind} {m n : ℕ} → f ≡ Is k → m ≡ kindNumber (kindMeant k) → kindMeant j ≡ kindFor ps → n ≡ kindNumber (kindMeant j) → eqb m n ≡ isKind a b ps
+  unfolding isKind foundOf
+  same-kind j g em ej en = rw (em, en, ej, ← ef, g)
 
 -- ---- entries
 
@@ -102,15 +101,15 @@ array-fits ps g = rw g
 -- ---- lists
 
 module _ (e : Entry) (es : List ℤ) where
-  pub too-many : 256 < length es → false ≡ isTail (ListOf e) es
+  pub too-many : 256 < length es → false ≡ isTail (listOf e) es
   unfolding isTail
   too-many h = rw (lt-leb (length es) 256 h)
 
-  pub few-enough : {t : Bool} → length es ≤ 256 → t ≡ areEntries e es → t ≡ isTail (ListOf e) es
+  pub few-enough : {t : Bool} → length es ≤ 256 → t ≡ areEntries e es → t ≡ isTail (listOf e) es
   unfolding isTail
   few-enough h j = j ∙ rw (le-leb (length es) 256 h)
 
-pub tail-of : (ps : Parameters) (es : List ℤ) {u q : Tail} {t : Bool} → u ≡ tailOf ps → u ≡ q → t ≡ isTail q es → t ≡ isTail (tailOf ps) es
+pub tail-of : (ps : Parameters) (es : List ℤ) {u q : Tail} {t : Bool} → tailMeant u ≡ tailOf ps → u ≡ q → t ≡ isTail (tailMeant q) es → t ≡ isTail (tailOf ps) es
 tail-of ps es e g j = rw (← e, g) j
 
 -- ---- the whole command

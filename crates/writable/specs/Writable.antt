@@ -12,50 +12,45 @@ use Rattle.refusals.specs.Answers.{every}
 use Rattle.signs.specs.Signs.{isInteger}
 use Rattle.ranges.specs.Ranges.{mostEntries}
 use Rattle.characters.specs.Characters.{isCharacter}
-use Rattle.table.specs.declared.Kind.{Kind}
-use Rattle.table.specs.declared.Kind.the-variants as K
-use Rattle.table.specs.declared.Found.{Found}
-use Rattle.table.specs.declared.Found.the-variants.{Is, NoKind}
-use Rattle.table.specs.Table.{kindOf}
+use Rattle.table.specs.Table.{ParameterKind, Tabled, inTable, notInTable, kindOf}
+use Rattle.table.specs.Table as K
 use Rattle.parameters.specs.declared.Entry.{Entry}
 use Rattle.parameters.specs.declared.Entry.the-variants.{AnInteger, ACharacter}
 use Rattle.parameters.specs.declared.Parameters.{Parameters}
 use Rattle.parameters.specs.declared.Parameters.the-variants.{OneInteger, TwoIntegers, ThreeIntegers, OnePoint, TwoPoints, AReal, TwoCharacters, AString, AnArray, IntegerThenString, IntegerThenArray}
-use Rattle.parameters.specs.declared.Tail.{Tail}
-use Rattle.parameters.specs.declared.Tail.the-variants.{NoList, ListOf}
-use Rattle.parameters.specs.Shapes.{Value, number, scaled, place, valuesOf, tailOf}
+use Rattle.parameters.specs.Shapes.{Tailed, noList, listOf, Value, number, scaled, place, valuesOf, tailOf}
 use Rattle.commands.specs.declared.Command.{Command}
 
-abbrev pub kindFor : Parameters → Kind
-kindFor (OneInteger a) = K.OneInteger
-kindFor (TwoIntegers a b) = K.TwoIntegers
-kindFor (ThreeIntegers a b c) = K.ThreeIntegers
-kindFor (OnePoint p) = K.OnePoint
-kindFor (TwoPoints p q) = K.TwoPoints
-kindFor (AReal r) = K.AReal
-kindFor AString = K.AString
-kindFor AnArray = K.AnArray
-kindFor (IntegerThenArray a) = K.IntegerThenArray
-kindFor (IntegerThenString a) = K.IntegerThenString
-kindFor (TwoCharacters a b) = K.TwoCharacters
+abbrev pub kindFor : Parameters → ParameterKind
+kindFor (OneInteger a) = K.oneInteger
+kindFor (TwoIntegers a b) = K.twoIntegers
+kindFor (ThreeIntegers a b c) = K.threeIntegers
+kindFor (OnePoint p) = K.onePoint
+kindFor (TwoPoints p q) = K.twoPoints
+kindFor (AReal r) = K.aReal
+kindFor AString = K.aString
+kindFor AnArray = K.anArray
+kindFor (IntegerThenArray a) = K.integerThenArray
+kindFor (IntegerThenString a) = K.integerThenString
+kindFor (TwoCharacters a b) = K.twoCharacters
 
 -- kinds are told apart by a number
-abbrev pub kindNumber : Kind → ℕ
-kindNumber K.OneInteger = 1
-kindNumber K.TwoIntegers = 2
-kindNumber K.ThreeIntegers = 3
-kindNumber K.OnePoint = 4
-kindNumber K.TwoPoints = 5
-kindNumber K.AReal = 6
-kindNumber K.AString = 7
-kindNumber K.AnArray = 8
-kindNumber K.IntegerThenArray = 9
-kindNumber K.IntegerThenString = 10
-kindNumber K.TwoCharacters = 11
+abbrev pub kindNumber : ParameterKind → ℕ
+kindNumber K.oneInteger = 1
+kindNumber K.twoIntegers = 2
+kindNumber K.threeIntegers = 3
+kindNumber K.onePoint = 4
+kindNumber K.twoPoints = 5
+kindNumber K.aReal = 6
+kindNumber K.aString = 7
+kindNumber K.anArray = 8
+kindNumber K.integerThenArray = 9
+kindNumber K.integerThenString = 10
+kindNumber K.twoCharacters = 11
 
-abbrev pub sameKind : Found → Kind → Bool
-sameKind (Is k) j = eqb (kindNumber k) (kindNumber j)
-sameKind NoKind j = false
+abbrev pub sameKind : Tabled → ParameterKind → Bool
+sameKind (inTable k) j = eqb (kindNumber k) (kindNumber j)
+sameKind notInTable j = false
 
 -- "letters or a kind of parameters not in the table"
 unfoldable pub isKind : ℕ → ℕ → Parameters → Bool
@@ -77,9 +72,9 @@ abbrev pub areValues : List Value → Bool
 areValues vs = every isValue vs
 
 -- "more than 256 entries"
-unfoldable pub isTail : Tail → List ℤ → Bool
-isTail NoList es = true
-isTail (ListOf e) es = leb (length es) mostEntries && areEntries e es
+unfoldable pub isTail : Tailed → List ℤ → Bool
+isTail noList es = true
+isTail (listOf e) es = leb (length es) mostEntries && areEntries e es
 
 -- the remembered point, the values and the list
 unfoldable pub fits : Remembered → Parameters → List ℤ → Bool

@@ -1,7 +1,8 @@
 // What may be written: letters and parameters that belong together, values within their ranges, a list of at most 256.
 ghost use mathlib.Core.Path.{_≡_};
 ghost use mathlib.Core.Bool.{_&&_};
-ghost use Rattle.parameters.specs.Shapes.{valuesOf, tailOf};
+ghost use Rattle.table.specs.Table.{kindMeant};
+ghost use Rattle.parameters.specs.Shapes.{listOf, valuesOf, tailOf};
 ghost use Rattle.writable.specs.Writable.{kindFor, kindNumber, isKind, isEntry, areEntries, areValues, isTail, fits, isCommand};
 use commands::Command;
 use memory::Remembered;
@@ -13,7 +14,7 @@ use table::Found;
 use table::Kind;
 
 pub fn kind_number(kind: Kind) -> u8
-    ensures { λ r. ⌜ r ≡ kindNumber kind ⌝ }
+    ensures { λ r. ⌜ r ≡ kindNumber (kindMeant kind) ⌝ }
 {
     match kind {
         Kind::OneInteger => 1,
@@ -31,7 +32,7 @@ pub fn kind_number(kind: Kind) -> u8
 }
 
 pub fn kind_of_parameters(parameters: Parameters) -> Kind
-    ensures { λ r. ⌜ r ≡ kindFor parameters ⌝ }
+    ensures { λ r. ⌜ kindMeant r ≡ kindFor parameters ⌝ }
 {
     match parameters {
         Parameters::OneInteger(_) => Kind::OneInteger,
@@ -112,7 +113,7 @@ fn values_fit(parameters: Parameters) -> bool
 }
 
 fn list_fits(entry: Entry, list: &[i32]) -> bool
-    ensures { λ r. ⌜ r ≡ isTail (Tail.ListOf entry) (now (list .entry)) ⌝ }
+    ensures { λ r. ⌜ r ≡ isTail (listOf entry) (now (list .entry)) ⌝ }
 {
     if list.len() > MOST_ENTRIES {
         return false;

@@ -30,7 +30,7 @@ use Rattle.parameters.specs.declared.LastPoint.{LastPoint}
 use Rattle.parameters.specs.declared.LastPoint.the-variants.{NoPoint, Last}
 use Rattle.parameters.specs.declared.Tail.{Tail}
 use Rattle.parameters.specs.declared.Tail.the-variants.{NoList, ListOf}
-use Rattle.parameters.specs.Shapes.{Value, number, scaled, place, valuesOf, tailOf, lastFrom, lastPoint}
+use Rattle.parameters.specs.Shapes.{listOf, Pointed, noPoint, last, tailMeant, pointMeant, Value, number, scaled, place, valuesOf, tailOf, lastFrom, lastPoint}
 use Rattle.commands.specs.declared.Command.{Command}
 use Rattle.writable.specs.Writable.{isKind, isEntry, areEntries, areValues, isTail, fits, isCommand}
 use Rattle.writing.specs.Writing.{spellEntry, spellEntries, spellValues, afterValues, spellTail, spellParameters, spellCommand, Poured}
@@ -122,7 +122,7 @@ all-poured e kept list l o at r g f = rw g f
 
 -- ---- a counted list
 
-module _ (e : Entry) (kept : Remembered) (list : List ℤ) (h : isTail (ListOf e) list ≡ true) where
+module _ (e : Entry) (kept : Remembered) (list : List ℤ) (h : isTail (listOf e) list ≡ true) where
   few-entries : leb (length list) 256 ≡ true
   unfolding isTail
   few-entries = and-left (leb (length list) 256) (areEntries e list) h
@@ -145,7 +145,7 @@ module _ (e : Entry) (kept : Remembered) (list : List ℤ) (h : isTail (ListOf e
   pub count-few : {n : ℕ} → n ≡ length (poured (leb (length list) 256) (sent kept (spell (pos (length list))))) → n ≤ 3
   count-few e = rw e count-long
 
-  pub list-poured : (l m o : List ℕ) (at n r : ℕ) → n ≡ length (poured (leb (length list) 256) (sent kept (spell (pos (length list))))) → m ≡ sets l at (poured (leb (length list) 256) (sent kept (spell (pos (length list))))) → Poured (spellEntries e kept list) 768 m o (at + n) r → Poured (spellTail kept (ListOf e) list) 771 l o at (n + r)
+  pub list-poured : (l m o : List ℕ) (at n r : ℕ) → n ≡ length (poured (leb (length list) 256) (sent kept (spell (pos (length list))))) → m ≡ sets l at (poured (leb (length list) 256) (sent kept (spell (pos (length list))))) → Poured (spellEntries e kept list) 768 m o (at + n) r → Poured (spellTail kept (listOf e) list) 771 l o at (n + r)
   unfolding spellTail
   list-poured l m o at n r en em f =
       let w = sent kept (spell (pos (length list))) in
@@ -154,11 +154,11 @@ module _ (e : Entry) (kept : Remembered) (list : List ℤ) (h : isTail (ListOf e
 
 -- ---- the tail of each kind
 
-module _ (ps : Parameters) (es : List ℤ) {u : Tail} (eu : u ≡ tailOf ps) where
-  pub tail-ok : {e : Entry} → isTail (tailOf ps) es ≡ true → u ≡ ListOf e → isTail (ListOf e) es ≡ true
+module _ (ps : Parameters) (es : List ℤ) {u : Tail} (eu : tailMeant u ≡ tailOf ps) where
+  pub tail-ok : {e : Entry} → isTail (tailOf ps) es ≡ true → u ≡ ListOf e → isTail (listOf e) es ≡ true
   tail-ok h g = rw (← eu, g) at h
 
-  pub tail-poured : (kept : Remembered) (e : Entry) (l o : List ℕ) (at r : ℕ) → u ≡ ListOf e → Poured (spellTail kept (ListOf e) es) 771 l o at r → Poured (spellTail kept (tailOf ps) es) 771 l o at r
+  pub tail-poured : (kept : Remembered) (e : Entry) (l o : List ℕ) (at r : ℕ) → u ≡ ListOf e → Poured (spellTail kept (listOf e) es) 771 l o at r → Poured (spellTail kept (tailOf ps) es) 771 l o at r
   tail-poured kept e l o at r g f = rw (← eu, g) f
 
   pub no-tail : (kept : Remembered) (l : List ℕ) (at : ℕ) → u ≡ NoList → Poured (spellTail kept (tailOf ps) es) 771 l l at 0
@@ -167,26 +167,26 @@ module _ (ps : Parameters) (es : List ℤ) {u : Tail} (eu : u ≡ tailOf ps) whe
 
 -- ---- what is remembered: the last point
 
-remembered : Remembered → LastPoint → Remembered
-remembered kept NoPoint = kept
-remembered kept (Last p) = remember kept p
+remembered : Remembered → Pointed → Remembered
+remembered kept noPoint = kept
+remembered kept (last p) = remember kept p
 
-after-from : (kept : Remembered) (b : LastPoint) (vs : List Value) → afterValues (remembered kept b) vs ≡ remembered kept (lastFrom b vs)
+after-from : (kept : Remembered) (b : Pointed) (vs : List Value) → afterValues (remembered kept b) vs ≡ remembered kept (lastFrom b vs)
 unfolding afterValues remembered
 after-from kept b [] = refl
 after-from kept b (number e v ∷ vs) = after-from kept b vs
 after-from kept b (scaled m x ∷ vs) = after-from kept b vs
-after-from kept NoPoint (place p ∷ vs) = after-from kept (Last p) vs
-after-from kept (Last q) (place p ∷ vs) = after-from kept (Last p) vs
+after-from kept noPoint (place p ∷ vs) = after-from kept (last p) vs
+after-from kept (last q) (place p ∷ vs) = after-from kept (last p) vs
 
-module _ (kept : Remembered) (vs : List Value) {b : LastPoint} (eb : b ≡ lastPoint vs) where
+module _ (kept : Remembered) (vs : List Value) {b : LastPoint} (eb : pointMeant b ≡ lastPoint vs) where
   pub kept-last : {p : Point} {k : Remembered} → b ≡ Last p → k ≡ remember kept p → k ≡ afterValues kept vs
   unfolding remembered
-  kept-last g j = sym (after-from kept NoPoint vs ∙ rw (← eb, g, j))
+  kept-last g j = sym (after-from kept noPoint vs ∙ rw (← eb, g, j))
 
   pub kept-before : b ≡ NoPoint → kept ≡ afterValues kept vs
   unfolding remembered
-  kept-before g = sym (after-from kept NoPoint vs ∙ rw (← eb, g))
+  kept-before g = sym (after-from kept noPoint vs ∙ rw (← eb, g))
 
 -- ---- the whole command
 

@@ -14,9 +14,7 @@ use Rattle.numbers.specs.Integers.{spell}
 use Rattle.points.specs.Writing.{spellPoint}
 use Rattle.parameters.specs.declared.Entry.{Entry}
 use Rattle.parameters.specs.declared.Entry.the-variants.{AnInteger, ACharacter}
-use Rattle.parameters.specs.declared.Tail.{Tail}
-use Rattle.parameters.specs.declared.Tail.the-variants.{NoList, ListOf}
-use Rattle.parameters.specs.Shapes.{Value, number, scaled, place, valuesOf, tailOf}
+use Rattle.parameters.specs.Shapes.{Tailed, noList, listOf, Value, number, scaled, place, valuesOf, tailOf}
 use Rattle.commands.specs.declared.Command.{Command}
 use Rattle.writable.specs.Writable.{fits, isCommand}
 
@@ -47,11 +45,11 @@ unfoldable pub afterValues : Remembered → List Value → Remembered
 afterValues kept [] = kept
 afterValues kept (v ∷ vs) = afterValues (afterValue kept v) vs
 
-unfoldable pub spellTail : Remembered → Tail → List ℤ → List ℕ
-spellTail kept NoList es = []
-spellTail kept (ListOf e) es = sent kept (spell (pos (length es))) ++ spellEntries e kept es
+unfoldable pub spellTail : Remembered → Tailed → List ℤ → List ℕ
+spellTail kept noList es = []
+spellTail kept (listOf e) es = sent kept (spell (pos (length es))) ++ spellEntries e kept es
 
-unfoldable pub spellParameters : Remembered → List Value → Tail → List ℤ → List ℕ
+unfoldable pub spellParameters : Remembered → List Value → Tailed → List ℤ → List ℕ
 spellParameters kept vs t es = spellValues kept vs ++ spellTail (afterValues kept vs) t es
 
 unfoldable pub spellCommand : Remembered → Command → List ℤ → List ℕ

@@ -7,7 +7,7 @@ ghost use lib.ListN.{length};
 ghost use Rattle.memory.specs.Memory.{inside, remember};
 ghost use Rattle.wire.specs.Sending.{sent, writtenOf, writeAt, afterWrite};
 ghost use Rattle.points.specs.Writing.{spellPoint};
-ghost use Rattle.parameters.specs.Shapes.{valuesOf, tailOf};
+ghost use Rattle.parameters.specs.Shapes.{listOf, valuesOf, tailOf};
 ghost use Rattle.writable.specs.Writable.{isEntry, areEntries, areValues, isTail, fits};
 ghost use Rattle.writing.specs.Writing.{spellEntry, spellEntries, spellValues, afterValues, spellTail, spellCommand, writeFitting, writeCommand, Poured};
 use commands::Command;
@@ -142,8 +142,8 @@ fn pour_all(kept: Remembered, entry: Entry, list: &[i32], out: &mut [u8], at: us
 }
 
 fn pour_list(kept: Remembered, entry: Entry, list: &[i32], out: &mut [u8], at: usize) -> usize
-    requires { ⌜ (isTail (Tail.ListOf entry) (now list) ≡ true) × (at ≤ 58) ⌝ }
-    ensures { λ r. ⌜ Poured (spellTail kept (Tail.ListOf entry) (now (list .entry))) 771 (now (out .entry)) (now (out .exit)) at r ⌝ }
+    requires { ⌜ (isTail (listOf entry) (now list) ≡ true) × (at ≤ 58) ⌝ }
+    ensures { λ r. ⌜ Poured (spellTail kept (listOf entry) (now (list .entry))) 771 (now (out .entry)) (now (out .exit)) at r ⌝ }
 {
     let n = spelling::pour_count(kept, list.len(), out, at);
     let next = at + n;

@@ -1,4 +1,4 @@
-use Rattle.table.specs.Table.{kindOf}
+use Rattle.table.specs.Table.{kindOf, foundOf}
 use Rattle.table.proofs.Letters.{letters}
 use borrow.Author.Needs.{needs}
 use Rattle.table.proofs.kind_of.Statement.{statement}
@@ -23,31 +23,31 @@ of-r-requires : tie.Need-of-r-requires
 of-r-requires c κs = search needs
 
 returns : tie.Need-returns
-unfolding kindOf
+unfolding kindOf foundOf
 returns c = search letters
 
 returns-2 : tie.Need-returns-2
-unfolding kindOf
+unfolding kindOf foundOf
 returns-2 c = search letters
 
 returns-3 : tie.Need-returns-3
-unfolding kindOf
+unfolding kindOf foundOf
 returns-3 c = search letters
 
 returns-4 : tie.Need-returns-4
-unfolding kindOf
+unfolding kindOf foundOf
 returns-4 c = search letters
 
 returns-5 : tie.Need-returns-5
-unfolding kindOf
+unfolding kindOf foundOf
 returns-5 c = search letters
 
 returns-6 : tie.Need-returns-6
-unfolding kindOf
+unfolding kindOf foundOf
 returns-6 c = search letters
 
 returns-7 : tie.Need-returns-7
-unfolding kindOf
+unfolding kindOf foundOf
 returns-7 c = search letters
 
 pub kind-of-spec : {M : Type 1} → statement M
