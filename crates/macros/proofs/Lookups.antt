@@ -149,7 +149,7 @@ pub ruleset locatings = (three-size, three-lawful, first-malformed, second-malfo
 
 -- ---- the part that is located, and whether there is one
 
-module _ (L : Layout) (v s : List ℕ) (n : ℤ) (f : SFits w32 n) (r : Place) (er : bodyPlaceOf r ≡ placed L v s (toZ w32 (ofZ w32 n))) where
+module _ (L : Layout) (v s : List ℕ) (n : ℤ) (r : Place) (er : bodyPlaceOf r ≡ placed L v s (toZ w32 (ofZ w32 n))) (f : SFits w32 n) where
   said : placed L v s n ≡ bodyPlaceOf r
   said = sym (rw (toZ-ofZ f) at er)
 
@@ -223,4 +223,4 @@ module _ (L : Layout) (v s : List ℕ) (n : ℤ) (f : SFits w32 n) (r : Place) (
     unfolding bodyPlaceOf
     empty-part lawful = part-said lawful g
 
-pub ruleset findings = (three-lawful, volatile-found, saved-found, volatile-inside, saved-inside, volatile-ends, saved-ends, volatile-part, saved-part, volatile-pointer, saved-pointer, empty-pointer, not-found, empty-part)
+pub ruleset findings = (volatile-found, saved-found, not-found)
