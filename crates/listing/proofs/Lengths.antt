@@ -27,14 +27,14 @@ use Rattle.parameters.specs.Numbers.{numbersOf}
 use Rattle.commands.specs.Reading.{Meaning, tell, commandAt}
 use Rattle.writable.specs.Writable.{isEntry, areEntries, isValue, areValues, isTail}
 use Rattle.writing.specs.Writing.{spellEntry, spellEntries, spellValues, afterValues, spellTail, spellParameters}
-use Rattle.stream.specs.Items.{Itemed, nothing, text, command, refusedCommand, refusedCall, asItem, commandItem, itemAt, toldItem}
+use Rattle.stream.specs.Items.{Itemed, nothing, text, command, refusedCommand, refusedCall, asItem, commandItem, itemAt, toldItem, nextStart, nextKept}
 use Rattle.laws.specs.Laws.{Onward, Parted, ByNothing}
 use Rattle.laws.proofs.RoundTrip.{partOf}
 use Rattle.laws.proofs.Shortest.{Shown, command-shown}
 use Rattle.laws.proofs.Partition.{every-stream-read}
 use Rattle.lines.specs.Decimals.{digitsOf, decimal, field, fields}
 use Rattle.lines.specs.Lines.{listed, opening, textLine, letters, commandHead, parametersWords, commandLine, pair, refusedLine, lineOf, lastLine}
-use Rattle.listing.specs.Listing.{nextStart, nextKept, entriesOf, lineThen, linesFrom, linesOf, listingWith, listingOf}
+use Rattle.listing.specs.Listing.{entriesOf, lineThen, linesFrom, linesOf, listingWith, listingOf}
 use Rattle.listing.proofs.Whole.{NoItem, no-lines}
 
 -- ---- digits

@@ -23,11 +23,11 @@ use Rattle.stream.specs.declared.TextItem.{TextItem}
 use Rattle.stream.specs.declared.RefusedItem.{RefusedItem}
 use Rattle.stream.specs.declared.Item.{Item}
 use Rattle.stream.specs.declared.Item.the-variants.{Nothing, Text}
-use Rattle.stream.specs.Items.{Itemed, itemAt, toldItem, itemOf, afterItem}
+use Rattle.stream.specs.Items.{Itemed, itemAt, toldItem, itemOf, afterItem, nextStart, nextKept}
 use Rattle.lines.specs.Pouring.{far, behind, Put}
 use Rattle.lines.specs.Lines.{lineOf, lastLine}
 use Rattle.lines.proofs.Pours.{poured-none, poured-both, poured-long}
-use Rattle.listing.specs.Listing.{nextStart, nextKept, entriesOf, lineThen, linesFrom, linesOf, listingWith, listingOf}
+use Rattle.listing.specs.Listing.{entriesOf, lineThen, linesFrom, linesOf, listingWith, listingOf}
 use Rattle.listing.proofs.Reading.{item-held, line-read}
 
 -- ---- the items' lines: those passed have been poured, and the rest is what k turns give

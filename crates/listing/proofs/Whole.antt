@@ -13,11 +13,11 @@ use Rattle.memory.specs.declared.Remembered.{Remembered}
 use Rattle.memory.specs.Memory.{freshMemory, inside}
 use Rattle.refusals.proofs.Cases.{by-pick}
 use Rattle.commands.specs.Reading.{Meaning}
-use Rattle.stream.specs.Items.{Itemed, nothing, text, command, refusedCommand, refusedCall, itemAt, toldItem}
+use Rattle.stream.specs.Items.{Itemed, nothing, text, command, refusedCommand, refusedCall, itemAt, toldItem, nextStart, nextKept}
 use Rattle.laws.specs.Laws.{Onward, Parted, ByNothing}
 use Rattle.laws.proofs.Partition.{every-stream-read}
 use Rattle.lines.specs.Lines.{lineOf}
-use Rattle.listing.specs.Listing.{nextStart, nextKept, lineThen, linesFrom, linesOf, listingWith, listingOf}
+use Rattle.listing.specs.Listing.{lineThen, linesFrom, linesOf, listingWith, listingOf}
 
 -- ---- what is no item has no line, and nothing follows it
 

@@ -11,24 +11,8 @@ use Rattle.memory.specs.Memory.{freshMemory}
 use Rattle.refusals.specs.Answers.{pick}
 use Rattle.ranges.specs.Ranges.{mostEntries}
 use Rattle.commands.specs.Reading.{Meaning, ToldCommand}
-use Rattle.stream.specs.Items.{Itemed, nothing, text, command, refusedCommand, refusedCall, itemAt, toldItem}
+use Rattle.stream.specs.Items.{Itemed, nothing, text, command, refusedCommand, refusedCall, itemAt, toldItem, nextStart, nextKept}
 use Rattle.lines.specs.Lines.{lineOf, lastLine}
-
--- where the next item starts: where this one ends
-unfoldable pub nextStart : ℕ → Itemed ToldCommand → ℕ
-nextStart start nothing = start
-nextStart start (text b n) = n
-nextStart start (command c) = c .next
-nextStart start (refusedCommand e p n before) = n
-nextStart start (refusedCall e p) = start
-
--- what is remembered there: "the remembered point after a refused command is that before it"
-unfoldable pub nextKept : Remembered → Itemed ToldCommand → Remembered
-nextKept kept nothing = kept
-nextKept kept (text b n) = kept
-nextKept kept (command c) = c .kept
-nextKept kept (refusedCommand e p n before) = before
-nextKept kept (refusedCall e p) = kept
 
 -- the entries that were read with an item
 unfoldable pub entriesOf : Itemed Meaning → List ℤ

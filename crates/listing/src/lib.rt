@@ -3,9 +3,9 @@
 ghost use mathlib.Core.Path.{_≡_};
 ghost use lib.ListN.{length};
 ghost use Rattle.wire.specs.Sending.{writeAt, afterWrite, writtenOf};
-ghost use Rattle.stream.specs.Items.{itemOf};
+ghost use Rattle.stream.specs.Items.{itemOf, nextStart, nextKept};
 ghost use Rattle.lines.specs.Pouring.{Put};
-ghost use Rattle.listing.specs.Listing.{nextStart, nextKept, linesOf, listingWith, listingOf};
+ghost use Rattle.listing.specs.Listing.{linesOf, listingWith, listingOf};
 use memory::Remembered;
 use refusals::Refusal;
 use stream::Item;

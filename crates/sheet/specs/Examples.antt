@@ -10,10 +10,10 @@ use Rattle.table.specs.Table.{kindOf, begins}
 use Rattle.parameters.specs.Entries.{entryAt, runAt}
 use Rattle.parameters.specs.Looking.{partAt, fixedAt, tailAt, parametersAt}
 use Rattle.commands.specs.Reading.{letterAt, secondAt, headAt, bodyAt, commandAt}
-use Rattle.stream.specs.Items.{passedFrom, commandItem, itemAt, toldItem, itemOf}
+use Rattle.stream.specs.Items.{passedFrom, commandItem, itemAt, toldItem, itemOf, nextStart, nextKept}
 use Rattle.lines.specs.Decimals.{digitsOf, decimal, field, fields}
 use Rattle.lines.specs.Lines.{listed, opening, textLine, letters, commandHead, parametersWords, commandLine, pair, refusedLine, lineOf, lastLine}
-use Rattle.listing.specs.Listing.{nextStart, nextKept, entriesOf, lineThen, linesFrom, linesOf, listingWith, listingOf}
+use Rattle.listing.specs.Listing.{entriesOf, lineThen, linesFrom, linesOf, listingWith, listingOf}
 use Rattle.macros.specs.Store.{isStoreEntry, threeBytes, encoded, wellFormed, keep, bodyOf, bodyInEither, lookRefusal, findRefusal, lookedUp, placed}
 use Rattle.macros.specs.Store.{frontEntries}
 use Rattle.defining.specs.Defining.{mayDefine, beforeRoom, defineRefusal, storeAfter}

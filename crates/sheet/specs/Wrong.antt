@@ -19,10 +19,10 @@ use Rattle.parameters.specs.Looking.{partAt, fixedAt, tailAt, parametersAt, aft
 use Rattle.commands.specs.Reading.{letterAt, secondAt, headAt, bodyAt, commandAt, told, afterEntries}
 use Rattle.writable.specs.Writable.{isKind, isTail, fits, isCommand}
 use Rattle.writing.specs.Writing.{spellEntry, spellEntries, spellValues, afterValues, spellTail, spellParameters, spellCommand}
-use Rattle.stream.specs.Items.{passedFrom, commandItem, itemAt, toldItem, itemOf, afterItem}
+use Rattle.stream.specs.Items.{passedFrom, commandItem, itemAt, toldItem, itemOf, afterItem, nextKept, nextStart}
 use Rattle.lines.specs.Decimals.{digitsOf, decimal, field, fields}
 use Rattle.lines.specs.Lines.{listed, opening, textLine, letters, commandHead, parametersWords, commandLine, pair, refusedLine, lineOf, lastLine}
-use Rattle.listing.specs.Listing.{nextStart, nextKept, entriesOf, lineThen, linesFrom, linesOf, listingWith, listingOf}
+use Rattle.listing.specs.Listing.{entriesOf, lineThen, linesFrom, linesOf, listingWith, listingOf}
 use Rattle.beam.specs.Validity.{isSize, isBits, onSurface, inViewport, isValid}
 use Rattle.beam.specs.Settings.{settled, makeFresh, bitsFrom, setBits, cornersOn, framed, setViewport, setBeam, stepped, makeStep}
 use Rattle.pixels.specs.Marks.{place, laid, moved, rowEnd}
@@ -36,7 +36,7 @@ use Rattle.pieces.specs.Pieces.{commandPiece, itemPiece, pieceAt}
 use Rattle.expansion.specs.Expansion.{walked, entering, callStretch, started, expandRefusal, expandTold, expandOut}
 use Rattle.pixel_calls.specs.Fields.{beamIn, fieldsOf}
 use Rattle.parameters.specs.Numbers.{fourOf}
-use Rattle.stream_calls.specs.Slots.{keptIn, twoOf, itemKept, itemNumber, kindSlot, itemFields, itemValues}
+use Rattle.stream_calls.specs.Slots.{keptIn, twoOf, itemNumber, kindSlot, itemFields, itemValues}
 use Rattle.stream_calls.specs.Given.{ofKind, ofTabled, commandGiven, keptAfter}
 use Rattle.macro_calls.specs.Slots.{placeFields, countFields}
 use Rattle.sheet.specs.Rows.{Wrong, differs, joined}
@@ -65,6 +65,6 @@ unfolding every number valueOr placeOf endsAfter allAfter byteAt pairAt isItself
     rasterRefusal runRefusal written surfaceAfter drawRaster rasterSurface drawRuns runsSurface after returned ran threeBytes encoded isStoreEntry
     frontEntries wellFormed keep bodyOf mayDefine beforeRoom defineRefusal storeAfter bodyInEither lookRefusal findRefusal lookedUp placed bodyPointer
     hasBody partByHeaders placedByHeaders lookedByHeaders commandPiece itemPiece pieceAt walked entering callStretch started expandRefusal expandTold expandOut
-    beamIn fieldsOf keptIn twoOf itemKept itemNumber kindSlot itemFields fourOf itemValues ofKind ofTabled commandGiven keptAfter placeFields
+    beamIn fieldsOf keptIn twoOf itemNumber kindSlot itemFields fourOf itemValues ofKind ofTabled commandGiven keptAfter placeFields
     countFields
 none-as-wrong = refl

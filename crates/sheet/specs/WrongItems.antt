@@ -14,11 +14,11 @@ use Rattle.commands.specs.Reading.{ToldCommand}
 use Rattle.writing.specs.Writing.{spellCommand, writeCommand}
 use Rattle.stream.specs.declared.Item.{Item}
 use Rattle.stream.specs.declared.Item.the-variants as I
-use Rattle.stream.specs.Items.{Itemed, nothing, text, command, refusedCommand, refusedCall, itemAt, toldItem, itemOf, afterItem}
+use Rattle.stream.specs.Items.{Itemed, nothing, text, command, refusedCommand, refusedCall, itemAt, toldItem, itemOf, afterItem, nextKept}
 use Rattle.lines.specs.Lines.{lineOf, lastLine}
 use Rattle.listing.specs.Listing.{listingOf}
 use Rattle.parameters.specs.Numbers.{numbersOf}
-use Rattle.stream_calls.specs.Slots.{keptIn, twoOf, itemKept, itemNumber, itemFields, itemValues}
+use Rattle.stream_calls.specs.Slots.{keptIn, twoOf, itemNumber, itemFields, itemValues}
 use Rattle.stream_calls.specs.Given.{commandGiven, keptAfter}
 use Rattle.sheet.specs.Rows.{Wrong, but, joined, signsOf, from, writingOf}
 
@@ -109,7 +109,7 @@ abbrev itemSlots : (point bytes : List ℕ) → ℕ → List ℤ → List ℕ
 itemSlots point bytes start list =
     let kept = keptIn point in
     let i = itemAt kept bytes start (length list) in
-    itemNumber (toldItem i) ∷ (itemFields (toldItem i) ++ (signsOf (itemValues (toldItem i)) ++ (twoOf (itemKept kept (toldItem i)) ++ signsOf (afterItem i list))))
+    itemNumber (toldItem i) ∷ (itemFields (toldItem i) ++ (signsOf (itemValues (toldItem i)) ++ (twoOf (nextKept kept (toldItem i)) ++ signsOf (afterItem i list))))
 
 abbrev pub wrong-ardh-next-item : List Wrong
 wrong-ardh-next-item =

@@ -74,3 +74,21 @@ afterItem (text b n) l = l
 afterItem (command m) l = sets l 0 (m .entries)
 afterItem (refusedCommand e p n k) l = l
 afterItem (refusedCall e p) l = l
+
+-- ---- what comes behind an item
+
+-- where the next item starts: where this one ends
+unfoldable pub nextStart : ℕ → Itemed ToldCommand → ℕ
+nextStart start nothing = start
+nextStart start (text b n) = n
+nextStart start (command c) = c .next
+nextStart start (refusedCommand e p n before) = n
+nextStart start (refusedCall e p) = start
+
+-- what is remembered there: "the remembered point after a refused command is that before it"
+unfoldable pub nextKept : Remembered → Itemed ToldCommand → Remembered
+nextKept kept nothing = kept
+nextKept kept (text b n) = kept
+nextKept kept (command c) = c .kept
+nextKept kept (refusedCommand e p n before) = before
+nextKept kept (refusedCall e p) = kept

@@ -20,8 +20,8 @@ use Rattle.stream.specs.declared.TextItem.{TextItem}
 use Rattle.stream.specs.declared.RefusedItem.{RefusedItem}
 use Rattle.stream.specs.declared.Item.{Item}
 use Rattle.stream.specs.declared.Item.the-variants.{Nothing, Text}
-use Rattle.stream.specs.Items.{itemOf, itemAt, toldItem, afterItem}
-use Rattle.stream_calls.specs.Slots.{keptIn, twoOf, itemKept, itemNumber, kindSlot, commandFields, itemFields, itemValues, NextItem}
+use Rattle.stream.specs.Items.{itemOf, itemAt, toldItem, afterItem, nextKept}
+use Rattle.stream_calls.specs.Slots.{keptIn, twoOf, itemNumber, kindSlot, commandFields, itemFields, itemValues, NextItem}
 
 -- the kind that the parameters are made as is the kind that they are
 pub kind-slot : (ps : Parameters) → kindSlot (valuesOf ps) (tailOf ps) ≡ kindNumber (kindFor ps)
@@ -44,19 +44,19 @@ pub record Hands (k : Remembered) (i : Item) (n : ℕ) (l : List ℕ) (v : List 
   pub number-is : n ≡ itemNumber (itemOf i)
   pub fields-are : l ≡ itemFields (itemOf i)
   pub values-are : v ≡ itemValues (itemOf i)
-  pub kept-is : m ≡ itemKept k (itemOf i)
+  pub kept-is : m ≡ nextKept k (itemOf i)
 
 module _ (k : Remembered) {i : Item} where
   pub nothing-hands : i ≡ Nothing → Hands k i 0 (0 ∷ 0 ∷ 0 ∷ 0 ∷ 0 ∷ 0 ∷ 0 ∷ []) noValues k
-  unfolding itemOf itemNumber itemFields itemValues itemKept
+  unfolding itemOf itemNumber itemFields itemValues nextKept
   nothing-hands e = rw e (record { number-is = refl; fields-are = refl; values-are = refl; kept-is = refl })
 
   pub text-hands : {t : TextItem} → i ≡ Text t → Hands k i 0 (1 ∷ t .next ∷ 0 ∷ t .byte ∷ 0 ∷ 0 ∷ 0 ∷ []) noValues k
-  unfolding itemOf itemNumber itemFields itemValues itemKept
+  unfolding itemOf itemNumber itemFields itemValues nextKept
   text-hands e = rw e (record { number-is = refl; fields-are = refl; values-are = refl; kept-is = refl })
 
   pub command-hands : {t : TakenCommand} {l : List ℕ} {v : List ℤ} → i ≡ Item.Command t → l ≡ commandFields (t .command .first) (t .command .second) (kindNumber (kindFor (t .command .parameters))) (t .count) (t .next) → v ≡ fourOf (valuesOf (t .command .parameters)) → Hands k i 0 l v (t .kept)
-  unfolding itemOf itemNumber itemFields itemValues itemKept
+  unfolding itemOf itemNumber itemFields itemValues nextKept
   command-hands {t = t} e el ev =
       rw e (record {
         number-is = refl;
@@ -66,11 +66,11 @@ module _ (k : Remembered) {i : Item} where
       })
 
   pub refused-command-hands : {r : RefusedItem} {n : ℕ} → i ≡ Item.RefusedCommand r → n ≡ numberOf (r .refusal) → Hands k i n (3 ∷ r .next ∷ r .place ∷ 0 ∷ 0 ∷ 0 ∷ 0 ∷ []) noValues (r .kept)
-  unfolding itemOf itemNumber itemFields itemValues itemKept
+  unfolding itemOf itemNumber itemFields itemValues nextKept
   refused-command-hands e j = rw e (record { number-is = j; fields-are = refl; values-are = refl; kept-is = refl })
 
   pub refused-call-hands : {f : Refusal} {p n : ℕ} → i ≡ Item.Refused f p → n ≡ numberOf f → Hands k i n (4 ∷ 0 ∷ p ∷ 0 ∷ 0 ∷ 0 ∷ 0 ∷ []) noValues k
-  unfolding itemOf itemNumber itemFields itemValues itemKept
+  unfolding itemOf itemNumber itemFields itemValues nextKept
   refused-call-hands e j = rw e (record { number-is = j; fields-are = refl; values-are = refl; kept-is = refl })
 
 -- ---- the exported call: read with the record that the two numbers stand for
@@ -82,7 +82,7 @@ next-item point bytes start list {k = k} {i = i} ek e j el h =
       answered = h .number-is ∙ ap itemNumber told;
       slots = h .fields-are ∙ ap itemFields told;
       numbers = h .values-are ∙ ap itemValues told;
-      remembered = j ∙ ap twoOf (h .kept-is ∙ ap (itemKept k) told ∙ rw ek);
+      remembered = j ∙ ap twoOf (h .kept-is ∙ ap (nextKept k) told ∙ rw ek);
       filled = el ∙ rw ek;
     }
 

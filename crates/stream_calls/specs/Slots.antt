@@ -9,7 +9,7 @@ use Rattle.parameters.specs.declared.Entry.the-variants.{AnInteger, ACharacter}
 use Rattle.parameters.specs.Shapes.{Tailed, noList, listOf, Value, number, scaled, place}
 use Rattle.parameters.specs.Numbers.{noValues, fourOf}
 use Rattle.commands.specs.Reading.{Meaning, ToldCommand}
-use Rattle.stream.specs.Items.{Itemed, nothing, text, command, refusedCommand, refusedCall, itemAt, toldItem, afterItem}
+use Rattle.stream.specs.Items.{Itemed, nothing, text, command, refusedCommand, refusedCall, itemAt, toldItem, afterItem, nextKept}
 
 -- ---- the remembered point
 
@@ -18,14 +18,6 @@ keptIn l = record { point = record { x = getD l 0 0; y = getD l 1 0 } }
 
 unfoldable pub twoOf : Remembered → List ℕ
 twoOf kept = kept .point .x ∷ kept .point .y ∷ []
-
--- behind text, behind the last item and where nothing was read it is as it was
-unfoldable pub itemKept : Remembered → Itemed ToldCommand → Remembered
-itemKept kept nothing = kept
-itemKept kept (text b n) = kept
-itemKept kept (command t) = t .kept
-itemKept kept (refusedCommand e p n after) = after
-itemKept kept (refusedCall e p) = kept
 
 -- ---- the number returned
 
@@ -86,5 +78,5 @@ module _ (point bytes : List ℕ) (start : ℕ) (list : List ℤ) where
     pub answered : answer ≡ itemNumber (toldItem read)
     pub slots : item ≡ itemFields (toldItem read)
     pub numbers : values ≡ itemValues (toldItem read)
-    pub remembered : last ≡ twoOf (itemKept (keptIn point) (toldItem read))
+    pub remembered : last ≡ twoOf (nextKept (keptIn point) (toldItem read))
     pub filled : entries ≡ afterItem read list

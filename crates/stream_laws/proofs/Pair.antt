@@ -22,8 +22,8 @@ use Rattle.parameters.specs.Numbers.{numbersOf, fourOf}
 use Rattle.commands.specs.declared.Command.{Command}
 use Rattle.writable.specs.Writable.{isKind, isValue, areValues, isTail, fits, isCommand}
 use Rattle.writing.specs.Writing.{afterValues, spellCommand, writeCommand}
-use Rattle.stream.specs.Items.{Itemed, command, itemAt, toldItem, afterItem}
-use Rattle.stream_calls.specs.Slots.{keptIn, twoOf, itemKept, itemNumber, itemFields, itemValues, kindSlot, commandFields, NextItem}
+use Rattle.stream.specs.Items.{Itemed, command, itemAt, toldItem, afterItem, nextKept}
+use Rattle.stream_calls.specs.Slots.{keptIn, twoOf, itemNumber, itemFields, itemValues, kindSlot, commandFields, NextItem}
 use Rattle.stream_calls.specs.Given.{ofKind, ofTabled, commandGiven, keptAfter, WrittenCommand}
 use Rattle.laws.specs.Laws.{carried, Back, given}
 use Rattle.laws.proofs.Items.{Wrote, wrote, item-back}
@@ -131,7 +131,7 @@ module _ (point : List ℕ) (first second : ℕ) (vs es : List ℤ) (out : List 
 
       -- "comes back": with its letters, values and list, and "the same remembered point after it"
       pub reads-back : {answer : ℕ} {item : List ℕ} {values : List ℤ} {behind : List ℕ} {entries : List ℤ} → NextItem point bytes (length before) list answer item values behind entries → ReadBack first second vs es (length before) n last list answer item values behind entries
-      unfolding commandGiven toldItem itemNumber itemFields itemValues itemKept afterItem
+      unfolding commandGiven toldItem itemNumber itemFields itemValues nextKept afterItem
       reads-back r = record {
         answered = r .answered ∙ rw item-is;
         slots = r .slots ∙ rw (item-is, back .first-is, back .second-is, back .values-are, back .tail-is, back .count-is, back .next-is);
