@@ -18,8 +18,8 @@ fn print(written: Written, out: &[u8]) -> bool {
     }
 }
 
-// One byte more than is listed tells whether more input follows. A listing has 57,351 bytes at most (crates/listing/proofs/Lengths.antt) and
-// so fits the buffer of 65,536.
+// One byte more than is listed tells whether more input follows. A listing has 57,351 bytes at most (crates/listing_laws/proofs/Lengths.antt)
+// and so fits the buffer of 65,536.
 fn main() {
     let mut input = [0; 4097];
     let mut out = io::large_buffer();

@@ -1,4 +1,2 @@
 pub mod Reading
 pub mod Listings
-pub mod Whole
-pub mod Lengths

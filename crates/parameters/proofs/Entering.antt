@@ -150,7 +150,7 @@ pub ruleset handings = (no-room, handing-none, handing-more, handing-end)
 -- ---- a count and that many entries
 
 -- readings that come to their end gave as many values
-all-read : {A : Type 0} (one : ℕ → Answer (Read A)) (k at : ℕ) → Done (λ n. length (allAfter one k at) ≡ k) (endsAfter one k at)
+pub all-read : {A : Type 0} (one : ℕ → Answer (Read A)) (k at : ℕ) → Done (λ n. length (allAfter one k at) ≡ k) (endsAfter one k at)
 unfolding endsAfter allAfter
 all-read one zero at = is-done (λ n. length (allAfter one 0 at) ≡ 0) refl
 all-read one (suc k) at =
@@ -159,7 +159,7 @@ all-read one (suc k) at =
     (λ x p g. not-done (λ n. length (allAfter one (suc k) at) ≡ suc k) x p)
 
 -- the front of an array that they were stored in is they themselves
-front-is : (es z : List ℤ) (k : ℕ) → length es ≡ k → k ≤ length z → take k (sets z 0 es) ≡ es
+pub front-is : (es z : List ℤ) (k : ℕ) → length es ≡ k → k ≤ length z → take k (sets z 0 es) ≡ es
 front-is es z k e h =
     ap (λ (m : List ℤ). take k m) (sets-eq es z 0 (omega (arith, e))) ∙ take-at es (drop (0 + length es) z) k e
 

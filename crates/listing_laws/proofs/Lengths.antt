@@ -34,8 +34,8 @@ use Rattle.laws.proofs.Shortest.{Shown, command-shown}
 use Rattle.laws.proofs.Partition.{every-stream-read}
 use Rattle.lines.specs.Decimals.{digitsOf, decimal, field, fields}
 use Rattle.lines.specs.Lines.{listed, opening, textLine, letters, commandHead, parametersWords, commandLine, pair, refusedLine, lineOf, lastLine}
 use Rattle.listing.specs.Listing.{entriesOf, lineThen, linesFrom, linesOf, listingWith, listingOf}
-use Rattle.listing.proofs.Whole.{NoItem, no-lines}
+use Rattle.listing_laws.proofs.Whole.{NoItem, no-lines}
 
 -- ---- digits
 
