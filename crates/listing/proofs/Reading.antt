@@ -26,10 +26,10 @@ use Rattle.listing.specs.Listing.{entriesOf}
 
 -- ---- as many as the count
 
-tail-counted : (kept : Remembered) (t : Tail) (s : List ℕ) (at : ℕ) → Done (λ (h : CountedRun). length (entryValues (entryIn t) kept (h .count) s (h .start)) ≡ h .count) (tailAt kept t s at)
+tail-counted : (kept : Remembered) (t : Tailed) (s : List ℕ) (at : ℕ) → Done (λ (h : CountedRun). length (entryValues (entryIn t) kept (h .count) s (h .start)) ≡ h .count) (tailAt kept t s at)
 unfolding tailAt runAt allAfter
-tail-counted kept NoList s at = is-done (λ (h : CountedRun). length (entryValues (entryIn NoList) kept (h .count) s (h .start)) ≡ h .count) refl
-tail-counted kept (ListOf e) s at =
+tail-counted kept noList s at = is-done (λ (h : CountedRun). length (entryValues (entryIn noList) kept (h .count) s (h .start)) ≡ h .count) refl
+tail-counted kept (listOf e) s at =
     by-then (Done P) (countAt kept s at) _
     (λ c g. by-then (Done P) (entriesEnd e kept (c .value) s (c .next)) _
     (λ n q. is-done P (done-of (λ x. length (allAfter (entryAt e kept s) (c .value) (c .next)) ≡ c .value) (all-read (entryAt e kept s) (c .value) (c .next)) q))
