@@ -181,8 +181,9 @@ uint8_t ardh_look_up(const uint8_t *volatile_store, size_t volatile_length, cons
 
 /*
  * The expansion of a macro into `out`: counts[0] bytes, and counts[1] macros entered.
- * Returns 12 for a store that is not well formed, 8 for a number outside 0..32767, 14 for a macro that neither store has, the number of the first trouble
- * (15, 16 or 17), 7 if the whole expansion does not fit `out`; or 0.
+ * Returns 12 for a store that is not well formed, 8 for a number outside 0..32767, 14 for a macro that neither store has; then the number of the first
+ * trouble in byte order: 17 for a refused or cut command, and at a KX 8 for a negative number, 15 or 16; then 7 if the whole expansion does not fit
+ * `out`; or 0.
  */
 uint8_t ardh_expand(const uint8_t *volatile_store, size_t volatile_length, const uint8_t *saved_store, size_t saved_length, int32_t number,
                     uint8_t *out, size_t room, size_t counts[2]);

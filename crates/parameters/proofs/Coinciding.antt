@@ -1,4 +1,4 @@
--- Two conforming answers of `look_at` coincide: values and tail fix the parameters. So do two of `numbers_of`.
+-- Two conforming answers of `look_at` coincide: values and tail fix the parameters. So do two of `numbers_of`, of `tail_of` and of `last_point`.
 use Prim.Native.Nat.{ℕ, _+_, _*_}
 use mathlib.Core.Path.{_≡_, refl, sym, _∙_, ap}
 use mathlib.Core.List.{List, [], _∷_}

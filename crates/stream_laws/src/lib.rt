@@ -1,1 +1,1 @@
-// Laws over the exported calls, one after the other: stated in specs/, proved in proofs/.
+// Laws over the exported stream calls, one after the other: stated in specs/Pair.antt, proved in proofs/Pair.antt.
