@@ -102,3 +102,7 @@ module _ (kept : Remembered) (s : List ℕ) (start room : ℕ) where
     -- "No spelling that reads as that command from that point is shorter."
     pub item-shortest : NoShorter kept start c m
     item-shortest = command-shortest kept s start room c (came .1) q
+
+    -- so what `write_command` gives for it from there is no longer
+    pub writing-shortest : {space n : ℕ} → writeCommand kept c (m .entries) space ≡ done n → start + n ≤ m .next
+    writing-shortest {space} w = omega (arith, item-shortest, wrote kept c (m .entries) space w .long)

@@ -1,5 +1,5 @@
 -- "It .. prints one line an item, newline 10. T: place, byte. C: start, letters, numbers in decimal, characters as their codes (arrays
--- and strings: count, then entries). R: start, refusal, place. Last: E and the bytes read, or M 4096 if more input follows."
+-- and strings: count, then entries). R: start, refusal, place. Last: E and the bytes read, or M 4096 if more input follows"
 use Prim.Native.Nat.{ℕ}
 use mathlib.Core.Bool.{Bool, true, false}
 use mathlib.Core.List.{List, [], _∷_, _++_}

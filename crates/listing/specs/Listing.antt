@@ -32,7 +32,7 @@ unfoldable pub linesFrom : ℕ → List ℕ → Remembered → ℕ → List ℕ
 linesFrom zero s kept start = []
 linesFrom (suc k) s kept start = lineThen (linesFrom k s) kept start (itemAt kept s start mostEntries)
 
--- the lines of all items of s. Each takes a byte at least, so there are no more items than bytes; that none is left out is a law, `no-item-left`
+-- the lines of all items of s. Each takes a byte at least, so there are no more items than bytes; that every item has its turn is a law, `all-listed`
 unfoldable pub linesOf : List ℕ → List ℕ
 linesOf s = linesFrom (length s) s freshMemory 0
 

@@ -68,9 +68,41 @@ same-lines zero (suc k) s h kept start part = absurd (omega arith)
 same-lines (suc j) (suc k) s h kept start part =
     same-then j k s kept start (same-lines j k s (omega arith)) (itemAt kept s start 256) refl part
 
-pub no-item-left : (s : List ℕ) (k : ℕ) → length s ≤ k → linesFrom k s freshMemory 0 ≡ linesOf s
+-- so more turns give no more lines
+pub no-more-lines : (s : List ℕ) (k : ℕ) → length s ≤ k → linesFrom k s freshMemory 0 ≡ linesOf s
 unfolding linesOf
-no-item-left s k h = same-lines k (length s) s h freshMemory 0 (every-stream-read freshMemory s 256 refl (omega arith))
+no-more-lines s k h = same-lines k (length s) s h freshMemory 0 (every-stream-read freshMemory s 256 refl (omega arith))
+
+-- ---- and behind as many turns as there are bytes the next item would start at their end: every item has had its turn
+
+-- where the next item starts behind k turns
+unfoldable pub startBehind : ℕ → List ℕ → Remembered → ℕ → ℕ
+startBehind zero s kept start = start
+startBehind (suc k) s kept start =
+    startBehind k s (nextKept kept (toldItem (itemAt kept s start 256))) (nextStart start (toldItem (itemAt kept s start 256)))
+
+still-there : (k : ℕ) (s : List ℕ) (kept : Remembered) (start : ℕ) → itemAt kept s start 256 ≡ nothing → startBehind k s kept start ≡ start
+unfolding startBehind toldItem nextKept nextStart
+still-there zero s kept start e = refl
+still-there (suc k) s kept start e = rw e (still-there k s kept start e)
+
+reached-then : (k : ℕ) (s : List ℕ) (kept : Remembered) (start : ℕ) → ((m : Remembered) (n : ℕ) → Parted ByNothing s 256 k m n → startBehind k s m n ≡ length s)
+    → (i : Itemed Meaning) → itemAt kept s start 256 ≡ i → Onward ByNothing (Parted ByNothing s 256 k) s kept start i
+    → startBehind k s (nextKept kept (toldItem i)) (nextStart start (toldItem i)) ≡ length s
+unfolding Onward toldItem nextKept nextStart
+reached-then k s kept start next (text b n) e h = next kept n (h .1)
+reached-then k s kept start next (command m) e h = next (m .kept) (m .next) (h .1)
+reached-then k s kept start next (refusedCommand x p n before) e h = next before n (h .1 .1)
+reached-then k s kept start next nothing e h = still-there k s kept start e ∙ h
+reached-then k s kept start next (refusedCall x p) e h = absurd h
+
+reached : (k : ℕ) (s : List ℕ) (kept : Remembered) (start : ℕ) → Parted ByNothing s 256 k kept start → startBehind k s kept start ≡ length s
+unfolding startBehind Parted
+reached zero s kept start part = part
+reached (suc k) s kept start part = reached-then k s kept start (reached k s) (itemAt kept s start 256) refl part
+
+pub all-listed : (s : List ℕ) → startBehind (length s) s freshMemory 0 ≡ length s
+all-listed s = reached (length s) s freshMemory 0 (every-stream-read freshMemory s 256 refl (omega arith))
 
 -- ---- the lister reads one byte more than it lists: that tells whether more input follows
 

@@ -52,7 +52,7 @@ threeBytes = record {
 
 -- ---- from entries to bytes
 
--- an entry is its header; "the body follows"
+-- an entry is its header; "The body follows"
 unfoldable pub encoded : Layout → List Entry → List ℕ
 encoded L [] = []
 encoded L (e ∷ es) = L .pack (e .number) (length (e .body)) ++ (e .body ++ encoded L es)
@@ -64,7 +64,7 @@ sizeOf L es = length (encoded L es)
 unfoldable pub entrySize : Layout → (count : ℕ) → ℕ
 entrySize L count = pick (eqb count 0) 0 (L .size + count)
 
--- "the rest of the store is all zeros"
+-- "The rest of the store is all zeros."
 abbrev pub stored : Layout → (room : ℕ) → List Entry → List ℕ
 stored L room es = encoded L es ++ replicate (room - sizeOf L es) 0
 

@@ -8,7 +8,7 @@ ghost use Rattle.macros.specs.Store.{threeBytes, atMost, isStoreEntry, w
 ghost use Rattle.macros.specs.Fronts.{LengthIs, FrontIs, GapIs, SurveyIs, HandsPart, gapBehind};
 use refusals::Refusal;
 
-// "The header is three bytes."
+// "The header is three bytes"
 pub const HEADER: usize = 3;
 
 // The longest body.

@@ -34,7 +34,7 @@ leading vs = getD (numbersOf vs) 0 (pos 0)
 unfoldable pub commandPiece : (first second : ℕ) → List Value → ℕ → Remembered → Pieced
 commandPiece first second values next after = pick (isCall first second) (called (leading values) next after) (copied next after)
 
--- "17: macro body holds a refused or cut command"; KD and KO are commands like others here. From a start within the body and a point inside,
+-- 17: "macro body holds a refused or cut command"; KD and KO are commands like others here. From a start within the body and a point inside,
 -- and with room for the most entries, an item is always read.
 unfoldable pub itemPiece : Remembered → Itemed ToldCommand → Pieced
 itemPiece kept nothing = end

@@ -5,7 +5,7 @@ ghost use Rattle.coordinates.specs.Coordinates.{pointGiven};
 ghost use Rattle.beam.specs.Settings.{settingOf, makeFresh, setBits, setViewport, setBeam, makeStep};
 ghost use Rattle.pixels.specs.Writes.{drawingOf, drawRaster, rasterSurface, drawRuns, runsSurface};
 ghost use Rattle.pixel_calls.specs.Fields.{beamIn, fieldsOf};
-ghost use Rattle.pixel_calls.specs.Promises.{HandsSettled, HandsWritten};
+ghost use Rattle.pixel_calls.specs.Promises.{HandsSettled, HandsWritten, BitsHanded, RasterHanded, RasterLeaves, RunsHanded, RunsLeave};
 use beam::Beam;
 use beam::Setting;
 use pixels::Drawing;
@@ -127,7 +127,7 @@ pub extern "C" fn ardh_set_bits(
     second: i32,
     third: i32,
 ) -> u8
-    ensures { λ r. ⌜ HandsSettled (setBits w h (beamIn (now (fields .entry))) first second third) r (now (fields .exit)) ⌝ }
+    ensures { λ r. ⌜ BitsHanded w h (now (fields .entry)) first second third r (now (fields .exit)) ⌝ }
 {
     let setting = beam::set_bits(w, h, beam_in(fields), first, second, third);
     let handed = of_setting(setting);
@@ -196,8 +196,8 @@ pub extern "C" fn ardh_draw_raster(
     characters: &[i32],
     count: &mut usize,
 ) -> u8
-    ensures { λ r. ⌜ HandsWritten (drawRaster w h (beamIn (now (fields .entry))) n (now (characters .entry)) (length (now (surface .entry)))) r (now (count .exit)) (now (fields .exit)) ⌝ }
-    ensures { λ _. ⌜ now (surface .exit) ≡ rasterSurface w h (beamIn (now (fields .entry))) n (now (characters .entry)) (now (surface .entry)) ⌝ }
+    ensures { λ r. ⌜ RasterHanded w h (now (fields .entry)) (now (surface .entry)) n (now (characters .entry)) r (now (count .exit)) (now (fields .exit)) ⌝ }
+    ensures { λ _. ⌜ RasterLeaves w h (now (fields .entry)) (now (surface .entry)) n (now (characters .entry)) (now (surface .exit)) ⌝ }
 {
     let drawing = pixels::draw_raster(surface, w, h, beam_in(fields), n, characters);
     let handed = of_drawing(drawing);
@@ -217,8 +217,8 @@ pub extern "C" fn ardh_draw_runs(
     codes: &[i32],
     count: &mut usize,
 ) -> u8
-    ensures { λ r. ⌜ HandsWritten (drawRuns w h (beamIn (now (fields .entry))) (now (codes .entry)) (length (now (surface .entry)))) r (now (count .exit)) (now (fields .exit)) ⌝ }
-    ensures { λ _. ⌜ now (surface .exit) ≡ runsSurface w h (beamIn (now (fields .entry))) (now (codes .entry)) (now (surface .entry)) ⌝ }
+    ensures { λ r. ⌜ RunsHanded w h (now (fields .entry)) (now (surface .entry)) (now (codes .entry)) r (now (count .exit)) (now (fields .exit)) ⌝ }
+    ensures { λ _. ⌜ RunsLeave w h (now (fields .entry)) (now (surface .entry)) (now (codes .entry)) (now (surface .exit)) ⌝ }
 {
     let drawing = pixels::draw_runs(surface, w, h, beam_in(fields), codes);
     let handed = of_drawing(drawing);

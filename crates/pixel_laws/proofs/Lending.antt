@@ -10,7 +10,7 @@ use lib.IntN.{ℤ}
 use Rattle.beam.specs.declared.Beam.{Beam}
 use Rattle.beam.specs.Validity.{isValid}
 use Rattle.pixel_refusals.specs.Tests.{isSurface}
-use Rattle.balance.specs.Balance.{Call, raster, runs, bits, State, refusal, after, returned, ran}
+use Rattle.balance.specs.Balance.{Call, raster, runs, bits, State, refusal, after, returned, ran, bitsAside}
 use Rattle.balance.proofs.Theorem.{balanced}
 use Rattle.pixel_calls.specs.Fields.{beamIn, fieldsOf}
 use Rattle.pixel_laws.specs.Lending.{Lent, held, Promised, Made, noCall, thenCall, BalancedLent}
@@ -83,4 +83,10 @@ lent-balanced w h calls before behind s v seven m =
       same-surface = ap (λ (st : State). st .surface) e;
       same-slots = sym (slots-back (behind .slots) (made-slots w h m seven)) ∙ ap (λ (st : State). fieldsOf (st .beam)) e;
       balanced = balanced w h (held before) calls s v;
+      same-list = λ others left n free freed same.
+          let f : held left ≡ ran w h others (held before) = made-state w h n in
+          let (surface, beam) = balanced w h (held before) calls s v .same-colours free others freed same in (
+            ap (λ (st : State). st .surface) f ∙ surface ∙ sym (ap (λ (st : State). st .surface) e),
+            ap (λ (st : State). bitsAside (st .beam)) f ∙ beam ∙ sym (ap (λ (st : State). bitsAside (st .beam)) e),
+          );
     }

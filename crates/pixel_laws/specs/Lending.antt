@@ -2,13 +2,13 @@
 -- the surface. Each is taken by its promise alone. proofs/Lending.antt proves that they are the balance's calls.
 use Prim.Native.Nat.{ℕ}
 use mathlib.Core.Path.{_≡_}
+use mathlib.Core.Bool.{true}
 use mathlib.Core.List.{List, [], _∷_}
 use lib.ListN.{length}
-use Rattle.beam.specs.Settings.{setBits}
-use Rattle.pixels.specs.Writes.{drawRaster, rasterSurface, drawRuns, runsSurface}
-use Rattle.balance.specs.Balance.{Call, raster, runs, bits, State, ran, Balanced}
+use Rattle.pixels.specs.Marks.{colours}
+use Rattle.balance.specs.Balance.{Call, raster, runs, bits, State, ran, namedBy, noRowEnds, bitsAside, Balanced}
 use Rattle.pixel_calls.specs.Fields.{beamIn, fieldsOf}
-use Rattle.pixel_calls.specs.Promises.{HandsSettled, HandsWritten}
+use Rattle.pixel_calls.specs.Promises.{BitsHanded, RasterHanded, RasterLeaves, RunsHanded, RunsLeave}
 
 pub record Lent : Type 0 where
   pub slots : List ℕ
@@ -18,17 +18,15 @@ pub record Lent : Type 0 where
 abbrev pub held : Lent → State
 held l = record { beam = beamIn (l .slots); surface = l .surface }
 
--- a call's promise, as its head has it: what is lent before it, the number returned, the count, and what is lent behind it. ardh_set_bits is not
+-- a call's promise, by the definitions that its head has: what is lent before it, the number returned, the count, and what is lent behind it. ardh_set_bits is not
 -- lent the surface, and has no count.
 unfoldable pub Promised : (w h : ℕ) → Call → (before : Lent) → (number count : ℕ) → (behind : Lent) → Type 0
 Promised w h (raster n chs) before number count behind =
-    HandsWritten (drawRaster w h (beamIn (before .slots)) n chs (length (before .surface))) number count (behind .slots)
-    × (behind .surface ≡ rasterSurface w h (beamIn (before .slots)) n chs (before .surface))
+    RasterHanded w h (before .slots) (before .surface) n chs number count (behind .slots) × RasterLeaves w h (before .slots) (before .surface) n chs (behind .surface)
 Promised w h (runs codes) before number count behind =
-    HandsWritten (drawRuns w h (beamIn (before .slots)) codes (length (before .surface))) number count (behind .slots)
-    × (behind .surface ≡ runsSurface w h (beamIn (before .slots)) codes (before .surface))
+    RunsHanded w h (before .slots) (before .surface) codes number count (behind .slots) × RunsLeave w h (before .slots) (before .surface) codes (behind .surface)
 Promised w h (bits first second third) before number count behind =
-    HandsSettled (setBits w h (beamIn (before .slots)) first second third) number (behind .slots) × (behind .surface ≡ before .surface)
+    BitsHanded w h (before .slots) first second third number (behind .slots) × (behind .surface ≡ before .surface)
 
 -- calls made one after another: each takes what the last one left, and keeps its promise
 pub data Made (w h : ℕ) : List Call → (before behind : Lent) → Type 0 where
@@ -41,3 +39,7 @@ pub record BalancedLent (w h : ℕ) (calls : List Call) (before behind : Lent) :
   pub same-surface : behind .surface ≡ ran w h calls (held before) .surface
   pub same-slots : behind .slots ≡ fieldsOf (ran w h calls (held before) .beam)
   pub balanced : Balanced w h (held before) calls
+  -- "the same list cut into other writes, run or raster, leaves the same surface", and the same beam, where no accepted call has a 96
+  pub same-list : (others : List Call) (left : Lent) → Made w h others before left → noRowEnds w h calls (held before) ≡ true
+      → noRowEnds w h others (held before) ≡ true → colours (namedBy w h others (held before)) ≡ colours (namedBy w h calls (held before))
+      → (left .surface ≡ behind .surface) × (bitsAside (beamIn (left .slots)) ≡ bitsAside (beamIn (behind .slots)))

@@ -20,9 +20,9 @@ use Rattle.sheet.specs.Rows.{Wrong, but, joined, truth, at, readingOf, n
 
 abbrev pub wrong-number : List Wrong
 wrong-number =
-    -- "7: lent list or output too short", "8: value out of range": 7 and 8 are told apart
+    -- 7: "lent list or output too short", 8: "value out of range": 7 and 8 are told apart
     but (numberOf TooShort ∷ []) (8 ∷ [])
-    -- "4: .. integer out of range", "5: count negative or above 256"
+    -- 4: ".. integer out of range", 5: "count negative or above 256"
     ∷ but (numberOf IntegerOutside ∷ []) (5 ∷ [])
     ∷ []
 
@@ -64,7 +64,7 @@ wrong-take =
     ∷ taking (27 ∷ 63 ∷ []) (0 ∷ 127 ∷ 1 ∷ 1 ∷ [])
     -- "For the pair 27 63 the place is that of the 63"
     ∷ taking (27 ∷ 63 ∷ []) (0 ∷ 127 ∷ 0 ∷ 2 ∷ [])
-    -- "3: byte not allowed here": 128 is no character
+    -- 3: "byte not allowed here": 128 is no character
     ∷ taking (128 ∷ []) (0 ∷ 128 ∷ 0 ∷ 1 ∷ [])
     ∷ []
 
@@ -77,7 +77,7 @@ wrong-three-ahead =
 
 abbrev pub wrong-room-for : List Wrong
 wrong-room-for =
-    -- "7: .. output too short for the whole result": a room that just fits is not
+    -- 7: ".. output too short for the whole result": a room that just fits is not
     but (writingOf (roomFor 2 2 0) []) (7 ∷ 0 ∷ [])
     -- the next byte goes behind all that was written
     ∷ but (writingOf (roomFor 1 2 0) []) (0 ∷ 0 ∷ [])

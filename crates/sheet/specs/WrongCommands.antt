@@ -62,7 +62,7 @@ wrong-look-at =
     ∷ looking K.twoPoints (96 ∷ 33 ∷ 64 ∷ 65 ∷ []) [] (0 ∷ 0 ∷ 0 ∷ 4 ∷ 4 ∷ 0 ∷ 0 ∷ 128 ∷ 0 ∷ 0 ∷ 0 ∷ 4 ∷ 0 ∷ 0 ∷ [])
     -- "an array is a count and that many integers": each stands behind the one before it
     ∷ looking K.anArray (50 ∷ 49 ∷ 51 ∷ []) (pos 9 ∷ pos 9 ∷ []) (0 ∷ 1 ∷ 2 ∷ 2 ∷ 0 ∷ 0 ∷ 0 ∷ 1 ∷ 0 ∷ 1 ∷ [])
-    -- "7: lent list .. too short for the whole result": no entry of two goes to a list of one, and it is not touched
+    -- 7: "lent list .. too short for the whole result": no entry of two goes to a list of one, and it is not touched
     ∷ looking K.anArray (50 ∷ 49 ∷ 51 ∷ []) (pos 9 ∷ []) (0 ∷ 1 ∷ 2 ∷ 3 ∷ 0 ∷ 0 ∷ 0 ∷ 1 ∷ [])
     ∷ looking K.anArray (50 ∷ 49 ∷ 51 ∷ []) (pos 9 ∷ []) (0 ∷ 1 ∷ 2 ∷ 3 ∷ 0 ∷ 0 ∷ 0 ∷ 0 ∷ [])
     ∷ []
@@ -116,7 +116,7 @@ reading s list wrong = but (toldIs (told (commandAt freshMemory s 0 (length list
 
 abbrev pub wrong-read-command : List Wrong
 wrong-read-command =
-    -- "7: lent list .. too short for the whole result": one that just fits is not
+    -- 7: "lent list .. too short for the whole result": one that just fits is not
     reading (27 ∷ 82 ∷ 76 ∷ 49 ∷ 50 ∷ []) (pos 9 ∷ []) (7 ∷ 0 ∷ 0 ∷ 9 ∷ [])
     -- "its place is the command's start"
     ∷ reading (27 ∷ 82 ∷ 76 ∷ 49 ∷ 50 ∷ []) [] (7 ∷ 3 ∷ [])
@@ -189,7 +189,7 @@ wrong-write-command =
     ∷ writing (with-letters 75 65 (P.OneInteger (pos 0))) [] (9 ∷ 9 ∷ 9 ∷ 9 ∷ []) (0 ∷ 4 ∷ 27 ∷ 65 ∷ 75 ∷ 48 ∷ [])
     -- "A string is a count and that many bytes": the characters stand behind their count
     ∷ writing (with-letters 76 84 P.AString) (pos 65 ∷ []) (9 ∷ 9 ∷ 9 ∷ 9 ∷ 9 ∷ []) (0 ∷ 5 ∷ 65 ∷ 76 ∷ 84 ∷ 49 ∷ 0 ∷ [])
-    -- "7: .. output too short for the whole result": one that just fits is not
+    -- 7: ".. output too short for the whole result": one that just fits is not
     ∷ writing (with-letters 75 65 (P.OneInteger (pos 0))) [] (9 ∷ 9 ∷ 9 ∷ 9 ∷ []) (7 ∷ 0 ∷ 9 ∷ 9 ∷ 9 ∷ 9 ∷ [])
     -- 8 for "letters .. not in the table", then 7
     ∷ writing (with-letters 78 88 (P.OneInteger (pos 0))) [] (9 ∷ 9 ∷ 9 ∷ 9 ∷ []) (0 ∷ 4 ∷ 27 ∷ 78 ∷ 88 ∷ 48 ∷ [])

@@ -158,7 +158,7 @@ wrong-piece-at =
     -- "KD and KO are copied and not obeyed", and KA is no call
     piece (27 ∷ 75 ∷ 68 ∷ 53 ∷ 48 ∷ []) 0 (2 ∷ 0 ∷ 5 ∷ 5 ∷ 0 ∷ 0 ∷ [])
     ∷ piece (27 ∷ 75 ∷ 65 ∷ 53 ∷ []) 0 (2 ∷ 0 ∷ 5 ∷ 4 ∷ 0 ∷ 0 ∷ [])
-    -- "17: macro body holds a refused or cut command": it is no end, and no text
+    -- 17: "macro body holds a refused or cut command": it is no end, and no text
     ∷ piece (27 ∷ []) 0 (0 ∷ [])
     ∷ piece (27 ∷ []) 0 (1 ∷ 1 ∷ 0 ∷ 0 ∷ [])
     -- what is not read is no end of the body
@@ -187,14 +187,14 @@ abbrev pub wrong-expand : List Wrong
 wrong-expand =
     -- "An absent nested macro gives nothing and isn't entered"
     from-one around (0 ∷ 2 ∷ 2 ∷ 65 ∷ 66 ∷ 9 ∷ [])
-    -- "17: macro body holds a refused or cut command"
+    -- 17: "macro body holds a refused or cut command"
     ∷ from-one (65 ∷ 27 ∷ []) (0 ∷ 1 ∷ 1 ∷ 65 ∷ 9 ∷ 9 ∷ [])
     -- one "that invents its .. macro count"; "the starting macro .. counts as the first entered"
     ∷ but (expanded (macro 1 around ∷ macro 2 (67 ∷ []) ∷ []) [] (pos 1) (9 ∷ 9 ∷ 9 ∷ [])) (0 ∷ 3 ∷ 1 ∷ 65 ∷ 67 ∷ 66 ∷ [])
-    -- "15: macro call inside a body at depth 8"; "a negative number is 8, then 15"
+    -- 15: "macro call inside a body at depth 8"; "a negative number is 8, then 15"
     ∷ but (expanded (chain (kx 9)) [] (pos 1) (9 ∷ 9 ∷ 9 ∷ [])) (0 ∷ 0 ∷ 8 ∷ 9 ∷ 9 ∷ 9 ∷ [])
     ∷ but (expanded (chain kxNegative) [] (pos 1) (9 ∷ 9 ∷ 9 ∷ [])) (15 ∷ 0 ∷ 0 ∷ 9 ∷ 9 ∷ 9 ∷ [])
-    -- "7: .. output too short for the whole result": one that just fits is not, and refused it is unchanged
+    -- 7: ".. output too short for the whole result": one that just fits is not, and refused it is unchanged
     ∷ from-one (65 ∷ 66 ∷ 67 ∷ []) (7 ∷ 0 ∷ 0 ∷ 9 ∷ 9 ∷ 9 ∷ [])
     ∷ from-one (65 ∷ 65 ∷ 65 ∷ 65 ∷ []) (7 ∷ 0 ∷ 0 ∷ 65 ∷ 65 ∷ 65 ∷ [])
     -- "Refusal 7 comes last, only when nothing else is wrong"

@@ -85,7 +85,7 @@ wrong-read-integer =
 
 abbrev pub wrong-as-count : List Wrong
 wrong-as-count =
-    -- "5: .. (place: its low byte)"; "at one byte, 4 before 5"
+    -- 5: ".. (place: its low byte)"; "at one byte, 4 before 5"
     but (readingOf number-is (countIn 256 (done (record { value = negsuc 0; place = 0; next = 1 })))) (5 ∷ 1 ∷ [])
     ∷ but (readingOf number-is (countIn 256 (refused 4 2))) (5 ∷ 2 ∷ [])
     ∷ []
@@ -107,7 +107,7 @@ wrong-write-integer =
     integer-written (pos 0) (9 ∷ 9 ∷ []) 0 (0 ∷ 2 ∷ 64 ∷ 48 ∷ [])
     -- the bytes go where they were asked for
     ∷ integer-written (pos 0) (9 ∷ 9 ∷ []) 1 (0 ∷ 2 ∷ 48 ∷ 9 ∷ [])
-    -- "7: .. too short for the whole result": 16 takes two bytes
+    -- 7: ".. too short for the whole result": 16 takes two bytes
     ∷ integer-written (pos 16) (9 ∷ []) 0 (0 ∷ 1 ∷ 65 ∷ [])
     -- "8 for .. a value .. outside its range": 32768 is
     ∷ integer-written (pos 32768) (9 ∷ 9 ∷ 9 ∷ []) 0 (0 ∷ 3 ∷ 96 ∷ 64 ∷ 48 ∷ [])

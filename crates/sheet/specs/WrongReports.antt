@@ -64,7 +64,7 @@ abbrev pub wrong-write-string-report : List Wrong
 wrong-write-string-report =
     -- "such a length, .. then bytes 32..127": the characters stand behind the three bytes
     string-written (pos 65 ∷ []) (9 ∷ 9 ∷ 9 ∷ 9 ∷ []) (0 ∷ 4 ∷ 65 ∷ 32 ∷ 49 ∷ 9 ∷ [])
-    -- "7: .. too short for the whole result", the three bytes with it
+    -- 7: ".. too short for the whole result", the three bytes with it
     ∷ string-written (pos 65 ∷ []) (9 ∷ []) (0 ∷ 1 ∷ 32 ∷ [])
     -- "8 for a value outside its range, then 7"
     ∷ string-written (pos 31 ∷ []) (9 ∷ []) (7 ∷ 0 ∷ 9 ∷ [])

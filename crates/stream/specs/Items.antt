@@ -31,8 +31,8 @@ passed (b ∷ bs) = pick (eqb b 27) 0 (suc (passed bs))
 unfoldable pub passedFrom : List ℕ → ℕ → ℕ
 passedFrom s at = at + passed (drop at s)
 
--- a command that was read, or refused: 7 "makes no item", "nothing is passed over"; "the remembered point after a refused command is that
--- before it"
+-- a command that was read, or refused: 7 "makes no item", "nothing is passed over"; "The remembered point after a refused command is that
+-- before it."
 abbrev pub asItem : Remembered → List ℕ → Answer Meaning → Itemed Meaning
 asItem kept s (done m) = command m
 asItem kept s (refused e p) = pick (eqb e 7) (refusedCall e p) (refusedCommand e p (passedFrom s p) kept)
@@ -85,7 +85,7 @@ nextStart start (command c) = c .next
 nextStart start (refusedCommand e p n before) = n
 nextStart start (refusedCall e p) = start
 
--- what is remembered there: "the remembered point after a refused command is that before it"
+-- what is remembered there: "The remembered point after a refused command is that before it."
 unfoldable pub nextKept : Remembered → Itemed ToldCommand → Remembered
 nextKept kept nothing = kept
 nextKept kept (text b n) = kept

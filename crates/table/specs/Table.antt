@@ -79,7 +79,7 @@ kindIn (e ∷ es) a b = pick (eqb a (e .first) && eqb b (e .second)) (inTable (e
 unfoldable pub kindOf : ℕ → ℕ → Tabled
 kindOf a b = kindIn table a b
 
--- "a first letter that begins no command"
+-- "A first letter that begins no command"
 abbrev pub beginsIn : List TableRow → ℕ → Bool
 beginsIn [] a = false
 beginsIn (e ∷ es) a = eqb a (e .first) || beginsIn es a
