@@ -3,9 +3,9 @@
 
 machine=$(uname -m)
 
-# The toolchain's folder: rt stands in its bin/.
+# The toolchain's folder, as rt finds it: the one that RATTLE_HOME names, or the one whose bin/ rt stands in.
 kit() {
-    dirname "$(dirname "$(readlink -f "$(command -v rt)")")"
+    printf '%s\n' "${RATTLE_HOME:-$(dirname "$(dirname "$(readlink -f "$(command -v rt)")")")}"
 }
 
 needs_emulator() {

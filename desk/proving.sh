@@ -92,12 +92,24 @@ count_proved() { # BEFORE ALL
     done
 }
 
+# Runs a command in a process group of its own, which ends with this one: what rt starts beside itself does not hear Ctrl-C.
+grouped() {
+    local group status=0
+    set -m
+    "$@" &
+    group=$!
+    set +m
+    trap 'kill -TERM -- "-$group" 2>/dev/null; trap - INT; kill -INT "$BASHPID"' INT TERM HUP
+    wait "$group" || status=$?
+    return "$status"
+}
+
 # Proves some crates and what they stand on, as a part of so many. What rt says is kept, and shown where it says that something is not proved.
 prove() { # ALL CRATES..
     local all=$1 log=$kept/$command.log
     shift
-    if ! (cd "$root" && rt check "$@") </dev/null 2>&1 | tee "$log" | count_proved 0 "$all"; then
-        grep -E '^rt: .*(NOT PROVED|FAILED)' "$log" >&2
+    if ! (cd "$root" && grouped rt check "$@") </dev/null 2>&1 | tee "$log" | count_proved 0 "$all"; then
+        grep -E '^rt: .*(NOT PROVED|FAILED)' "$log" >&2 || true
         fail "not all is proved, so nothing is built; what rt said is in ${log@Q}"
     fi
 }

@@ -104,5 +104,5 @@ module _ (kept : Remembered) (s : List ℕ) (start room : ℕ) where
     item-shortest = command-shortest kept s start room c (came .1) q
 
     -- so what `write_command` gives for it from there is no longer
-    pub writing-shortest : {space n : ℕ} → writeCommand kept c (m .entries) space ≡ done n → start + n ≤ m .next
-    writing-shortest {space} w = omega (arith, item-shortest, wrote kept c (m .entries) space w .long)
+    pub writing-shortest : (space : ℕ) {n : ℕ} → writeCommand kept c (m .entries) space ≡ done n → start + n ≤ m .next
+    writing-shortest space w = omega (arith, item-shortest, wrote kept c (m .entries) space w .long)
