@@ -35,6 +35,7 @@ use Rattle.laws.proofs.Partition.{every-stream-read}
 use Rattle.lines.specs.Decimals.{digitsOf, decimal, field, fields}
 use Rattle.lines.specs.Lines.{listed, opening, textLine, letters, commandHead, parametersWords, commandLine, pair, refusedLine, lineOf, lastLine}
 use Rattle.listing.specs.Listing.{entriesOf, lineThen, linesFrom, linesOf, listingWith, listingOf}
+use Rattle.listing_laws.specs.Listings.{mostListed}
 use Rattle.listing_laws.proofs.Whole.{NoItem, no-lines}
 
 -- ---- digits
@@ -262,7 +263,7 @@ module _ (s : List ℕ) (bytes : (i : ℕ) → getD s i 0 < 256) (most : length 
   lines-few (suc k) kept start h =
       then-few k kept start (lines-few k) (itemAt kept s start 256) refl (item-told kept s start bytes) h
 
-  pub with-few : (more : Bool) → length (listingWith more s) ≤ 57351
+  pub with-few : (more : Bool) → length (listingWith more s) ≤ mostListed
   unfolding listingWith linesOf
   with-few more =
       let lines = lines-few (length s) freshMemory 0 (every-stream-read freshMemory s 256 refl (omega arith)) in
@@ -275,14 +276,14 @@ front-bytes (suc n) (x ∷ s) h zero = h 0
 front-bytes (suc n) (x ∷ s) h (suc i) = front-bytes n s (λ j. h (suc j)) i
 
 -- 14 times 4,096, and 7
-pub listing-few : (input : List ℕ) → ((i : ℕ) → getD input i 0 < 256) → length (listingOf input) ≤ 57351
+pub listing-few : (input : List ℕ) → ((i : ℕ) → getD input i 0 < 256) → length (listingOf input) ≤ mostListed
 unfolding listingOf
 listing-few input bytes =
-    by-pick (λ (w : List ℕ). length w ≤ 57351) (ltb 4096 (length input)) _ _
+    by-pick (λ (w : List ℕ). length w ≤ mostListed) (ltb 4096 (length input)) _ _
     (λ t. with-few (take 4096 input) (front-bytes 4096 input bytes) (omega (arith, length-take 4096 input)) true)
     (λ t. with-few input bytes (ltb-false 4096 (length input) t) false)
 
 -- in such room it is always written
-pub always-fits : (input : List ℕ) (room : ℕ) → ((i : ℕ) → getD input i 0 < 256) → 57351 ≤ room → writeAt (listingOf input) room 0 ≡ done (0 + length (listingOf input))
+pub always-fits : (input : List ℕ) (room : ℕ) → ((i : ℕ) → getD input i 0 < 256) → mostListed ≤ room → writeAt (listingOf input) room 0 ≡ done (0 + length (listingOf input))
 unfolding writeAt roomFor
 always-fits input room bytes h = rw (le-leb (0 + length (listingOf input)) room (omega (arith, listing-few input bytes)))

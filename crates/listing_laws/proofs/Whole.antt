@@ -18,6 +18,7 @@ use Rattle.laws.specs.Laws.{Onward, Parted, ByNothing}
 use Rattle.laws.proofs.Partition.{every-stream-read}
 use Rattle.lines.specs.Lines.{lineOf}
 use Rattle.listing.specs.Listing.{lineThen, linesFrom, linesOf, listingWith, listingOf}
+use Rattle.listing_laws.specs.Listings.{startBehind}
 
 -- ---- what is no item has no line, and nothing follows it
 
@@ -74,12 +75,6 @@ unfolding linesOf
 no-more-lines s k h = same-lines k (length s) s h freshMemory 0 (every-stream-read freshMemory s 256 refl (omega arith))
 
 -- ---- and behind as many turns as there are bytes the next item would start at their end: every item has had its turn
-
--- where the next item starts behind k turns
-unfoldable pub startBehind : ℕ → List ℕ → Remembered → ℕ → ℕ
-startBehind zero s kept start = start
-startBehind (suc k) s kept start =
-    startBehind k s (nextKept kept (toldItem (itemAt kept s start 256))) (nextStart start (toldItem (itemAt kept s start 256)))
 
 still-there : (k : ℕ) (s : List ℕ) (kept : Remembered) (start : ℕ) → itemAt kept s start 256 ≡ nothing → startBehind k s kept start ≡ start
 unfolding startBehind toldItem nextKept nextStart
