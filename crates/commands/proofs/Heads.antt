@@ -3,76 +3,107 @@ use Prim.Native.Nat.{ℕ, _+_, _≤_, _<_}
 use mathlib.Core.Path.{_≡_, refl, sym, _∙_, ap}
 use mathlib.Core.Bool.{Bool, true, false}
 use mathlib.Core.List.{List}
-use borrow.Author.Tests.{lt-ltb, le-ltb, le-leb, lt-leb}
+use borrow.Author.Tests.{lt-ltb, le-ltb, le-leb, lt-leb, ne-eqb}
 use lib.Dec.{leb}
-use lib.ListN.{length}
+use lib.ListN.{length, getD}
 use lib.Seq.{sets}
 use lib.IntN.{ℤ}
+use Rattle.memory.specs.declared.DelMode.{DelMode}
 use Rattle.memory.specs.declared.Remembered.{Remembered}
 use Rattle.refusals.specs.declared.Refusal.{Refusal}
-use Rattle.refusals.specs.declared.Refusal.the-variants.{BytesEnd, UnknownCommand, TooShort}
+use Rattle.refusals.specs.declared.Refusal.the-variants.{BytesEnd, UnknownCommand, NewEscape, TooShort}
 use Rattle.refusals.specs.Refusals.{numberOf}
 use Rattle.refusals.specs.Answers.{Answer, done, refused, then, pick}
+use Rattle.wire.specs.declared.TakenByte.{TakenByte}
+use Rattle.wire.specs.declared.ByteRead.{ByteRead}
+use Rattle.wire.specs.declared.ByteRead.the-variants.{Byte}
+use Rattle.wire.specs.Taking.{pastDels, byteOf}
 use Rattle.table.specs.declared.Kind.{Kind}
 use Rattle.table.specs.declared.Found.{Found}
 use Rattle.table.specs.declared.Found.the-variants.{Is, NoKind}
-use Rattle.table.specs.Table.{ParameterKind, kindMeant, begins, kindOf, foundOf}
+use Rattle.table.specs.Table.{begins, kindOf, foundOf}
 use Rattle.parameters.specs.declared.TakenParameters.{TakenParameters}
 use Rattle.parameters.specs.declared.ParametersRead.{ParametersRead}
 use Rattle.parameters.specs.Entries.{handed}
-use Rattle.parameters.specs.Shapes.{shapeOf}
-use Rattle.parameters.specs.Looking.{Parsed, parametersAt, lookOf, afterLook}
+use Rattle.parameters.specs.Shapes.{shapeOf, valuesOf}
+use Rattle.parameters.specs.Behind.{afterValues}
+use Rattle.parameters.specs.Looking.{Parsed, parametersAt, parsedAs, lookOf, afterLook}
+use Rattle.parameters.proofs.Kept.{parsed-kept}
 use Rattle.commands.specs.declared.CommandRead.{CommandRead}
 use Rattle.commands.specs.declared.CommandRead.the-variants.{Whole}
-use Rattle.commands.specs.declared.LetterRead.{LetterRead}
-use Rattle.commands.specs.declared.LetterRead.the-variants.{Letter}
+use Rattle.commands.specs.declared.TakenLetters.{TakenLetters}
+use Rattle.commands.specs.declared.TakenCommand.{TakenCommand}
 use Rattle.commands.specs.declared.HeadRead.{HeadRead}
 use Rattle.commands.specs.declared.HeadRead.the-variants.{Head}
-use Rattle.commands.specs.Reading.{letterAt, letterOf, Letters, headOf, secondAt, headAt, Meaning, meaning, bodyAt, commandAt, ToldCommand, told, commandOf, afterEntries}
+use Rattle.commands.specs.Behind.{leading, afterLetters}
+use Rattle.commands.specs.Reading.{letterHere, letterAt, Letters, lettersOf, headOf, secondAt, headAt, Meaning, meaning, commandOfLetters, bodyAt, commandAt, ToldCommand, told, commandOf, afterEntries}
 
 -- ---- the letters
 
-module _ (s : List ℕ) (at : ℕ) {r : LetterRead} (er : letterOf r ≡ letterAt s at) where
-  pub second-none : (a : ℕ) {x : Refusal} {p : ℕ} → r ≡ LetterRead.Refused x p → headOf (HeadRead.Refused x p) ≡ secondAt a s at
-  unfolding secondAt headOf letterOf
+-- a letter, by the tests as the code leaves them; p is where it stands
+module _ (m : DelMode) (s : List ℕ) (at : ℕ) {p : ℕ} (ep : p ≡ pastDels m s at) where
+  pub letter-end : length s ≤ p → byteOf (ByteRead.Refused BytesEnd (length s)) ≡ letterAt m s at
+  unfolding letterHere byteOf
+  letter-end h = rw (← ep, le-ltb p (length s) h)
+
+  pub letter-escape : p < length s → getD s p 0 ≡ 27 → byteOf (ByteRead.Refused NewEscape p) ≡ letterAt m s at
+  unfolding letterHere byteOf
+  letter-escape h e = rw (← ep, lt-ltb p (length s) h, e)
+
+  pub letter-is : {b : ℕ} → p < length s → b ≡ getD s p 0 → (b ≡ 27 → ⊥) → byteOf (Byte (record { value = b; place = p; next = p + 1 })) ≡ letterAt m s at
+  unfolding letterHere byteOf
+  letter-is h e n = rw (← ep, lt-ltb p (length s) h, ← e, ne-eqb _ 27 n)
+
+pub ruleset letters = (letter-end, letter-escape, letter-is)
+
+module _ (m : DelMode) (s : List ℕ) (at : ℕ) {r : ByteRead} (er : byteOf r ≡ letterAt m s at) where
+  pub second-none : (a : ℕ) {x : Refusal} {p : ℕ} → r ≡ ByteRead.Refused x p → headOf (HeadRead.Refused x p) ≡ secondAt m a s at
+  unfolding secondAt headOf byteOf
   second-none a g = rw (← er, g)
 
-  pub first-none : {x : Refusal} {p : ℕ} → r ≡ LetterRead.Refused x p → headOf (HeadRead.Refused x p) ≡ headAt s at
-  unfolding headAt headOf letterOf
+  pub first-none : {x : Refusal} {p : ℕ} → r ≡ ByteRead.Refused x p → headOf (HeadRead.Refused x p) ≡ headAt m s at
+  unfolding headAt headOf byteOf
   first-none g = rw (← er, g)
 
-  module _ {b : ℕ} (g : r ≡ Letter b) where
-    pub second-is : (a : ℕ) {f : Found} {k : Kind} → foundOf f ≡ kindOf a b → f ≡ Is k → headOf (Head a b k) ≡ secondAt a s at
-    unfolding secondAt headOf letterOf foundOf
+  module _ {b : TakenByte} (g : r ≡ Byte b) where
+    pub second-is : (a : ℕ) {f : Found} {k : Kind} → foundOf f ≡ kindOf a (b .value) → f ≡ Is k → headOf (Head (record { first = a; second = b .value; kind = k; next = b .next })) ≡ secondAt m a s at
+    unfolding secondAt headOf byteOf foundOf
     second-is a e h = rw (← er, g, ← e, h)
 
-    pub second-unknown : (a : ℕ) {f : Found} → foundOf f ≡ kindOf a b → f ≡ NoKind → headOf (HeadRead.Refused UnknownCommand at) ≡ secondAt a s at
-    unfolding secondAt headOf letterOf foundOf
+    pub second-unknown : (a : ℕ) {f : Found} → foundOf f ≡ kindOf a (b .value) → f ≡ NoKind → headOf (HeadRead.Refused UnknownCommand (b .place)) ≡ secondAt m a s at
+    unfolding secondAt headOf byteOf foundOf
     second-unknown a e h = rw (← er, g, ← e, h)
 
-    pub first-is : {t : Bool} {q : Answer Letters} → t ≡ begins b → t ≡ true → q ≡ secondAt b s (at + 1) → q ≡ headAt s at
-    unfolding headAt letterOf
+    pub first-is : {t : Bool} {q : Answer Letters} → t ≡ begins (b .value) → t ≡ true → q ≡ secondAt m (b .value) s (b .next) → q ≡ headAt m s at
+    unfolding headAt byteOf
     first-is e h j = rw (← er, g, ← e, h) j
 
-    pub first-unknown : {t : Bool} → t ≡ begins b → t ≡ false → headOf (HeadRead.Refused UnknownCommand at) ≡ headAt s at
-    unfolding headAt headOf letterOf
+    pub first-unknown : {t : Bool} → t ≡ begins (b .value) → t ≡ false → headOf (HeadRead.Refused UnknownCommand (b .place)) ≡ headAt m s at
+    unfolding headAt headOf byteOf
     first-unknown e h = rw (← er, g, ← e, h)
 
 -- ---- the body
 
-module _ (kept : Remembered) (a b : ℕ) (k : ParameterKind) (s : List ℕ) (start room : ℕ) {r : ParametersRead} (er : lookOf r ≡ parametersAt kept (shapeOf k) s (start + 3)) where
-  pub body-refused : {x : Refusal} {p : ℕ} → r ≡ ParametersRead.Refused x p → commandOf (CommandRead.Refused x p) ≡ told (bodyAt kept a b k s start room)
+module _ (kept : Remembered) (l : Letters) (s : List ℕ) (start room : ℕ) {r : ParametersRead} (er : lookOf r ≡ parametersAt kept (shapeOf (l .kind)) s (l .next)) where
+  pub body-refused : {x : Refusal} {p : ℕ} → r ≡ ParametersRead.Refused x p → commandOf (CommandRead.Refused x p) ≡ told (bodyAt kept l s start room)
   unfolding bodyAt told commandOf lookOf
   body-refused g = rw (← er, g)
 
   module _ {t : TakenParameters} (g : r ≡ ParametersRead.Whole t) where
-    pub body-short : room < t .run .count → commandOf (CommandRead.Refused TooShort start) ≡ told (bodyAt kept a b k s start room)
+    pub body-short : room < t .run .count → commandOf (CommandRead.Refused TooShort start) ≡ told (bodyAt kept l s start room)
     unfolding bodyAt told commandOf lookOf
     body-short h = rw (← er, g, lt-leb (t .run .count) room h)
 
-    pub body-whole : t .run .count ≤ room → commandOf (Whole (record { command = record { first = a; second = b; parameters = t .parameters }; count = t .run .count; next = t .next; kept = t .kept })) ≡ told (bodyAt kept a b k s start room)
-    unfolding bodyAt told commandOf lookOf
-    body-whole h = rw (← er, g, le-leb (t .run .count) room h)
+    -- what the parameters left is what is remembered behind their values
+    left-so : t .kept ≡ afterValues kept (valuesOf (t .parameters))
+    unfolding lookOf
+    left-so =
+        let e : parametersAt kept (shapeOf (l .kind)) s (l .next) ≡ done (parsedAs (t .parameters) (t .run) (t .next) (t .kept)) = sym er ∙ rw g in
+        parsed-kept kept (shapeOf (l .kind)) s (l .next) e
+
+    pub body-whole : {w : TakenCommand} → t .run .count ≤ room → w ≡ commandOfLetters (l .first) (l .second) t → commandOf (Whole w) ≡ told (bodyAt kept l s start room)
+    unfolding bodyAt told commandOf commandOfLetters lookOf
+    body-whole h e = rw (e, ← er, g, le-leb (t .run .count) room h, left-so)
 
 -- the entries stand in the list where there is room for the whole command, and only there
 handed-over : (t : Bool) (m : Meaning) (start : ℕ) (l : List ℤ) → pick t (sets l 0 (m .entries)) l ≡ afterEntries (pick t (done m) (refused 7 start)) l
@@ -80,14 +111,14 @@ unfolding afterEntries
 handed-over true m start l = refl
 handed-over false m start l = refl
 
-body-after : (a b : ℕ) (s : List ℕ) (start : ℕ) (l : List ℤ) (p : Answer Parsed) → afterLook s p l ≡ afterEntries (then p (λ p. pick (leb (p .count) (length l)) (done (meaning a b s p)) (refused 7 start))) l
+body-after : (kept : Remembered) (h : Letters) (s : List ℕ) (start : ℕ) (l : List ℤ) (p : Answer Parsed) → afterLook s p l ≡ afterEntries (then p (λ p. pick (leb (p .count) (length l)) (done (meaning kept h s p)) (refused 7 start))) l
 unfolding afterLook handed afterEntries
-body-after a b s start l (done p) = handed-over (leb (p .count) (length l)) (meaning a b s p) start l
-body-after a b s start l (refused e p) = refl
+body-after kept h s start l (done p) = handed-over (leb (p .count) (length l)) (meaning kept h s p) start l
+body-after kept h s start l (refused e p) = refl
 
-pub body-entries : (kept : Remembered) (a b : ℕ) (k : ParameterKind) (s : List ℕ) (start : ℕ) (l : List ℤ) {o : List ℤ} → o ≡ afterLook s (parametersAt kept (shapeOf k) s (start + 3)) l → o ≡ afterEntries (bodyAt kept a b k s start (length l)) l
+pub body-entries : (kept : Remembered) (h : Letters) (s : List ℕ) (start : ℕ) (l : List ℤ) {o : List ℤ} → o ≡ afterLook s (parametersAt kept (shapeOf (h .kind)) s (h .next)) l → o ≡ afterEntries (bodyAt kept h s start (length l)) l
 unfolding bodyAt
-body-entries kept a b k s start l j = j ∙ body-after a b s start l (parametersAt kept (shapeOf k) s (start + 3))
+body-entries kept h s start l j = j ∙ body-after kept h s start l (parametersAt kept (shapeOf (h .kind)) s (h .next))
 
 pub ruleset bodies = (body-refused, body-short, body-whole, body-entries)
 
@@ -102,20 +133,23 @@ module _ (kept : Remembered) (s : List ℕ) (start room : ℕ) where
   unfolding commandAt afterEntries
   kept-past l h = rw (le-ltb start (length s) h)
 
-  module _ {r : HeadRead} (h : start < length s) (er : headOf r ≡ headAt s (start + 1)) where
+  module _ {m : DelMode} (r : HeadRead) (h : start < length s) (em : m ≡ kept .mode) (er : headOf r ≡ headAt m s (start + 1)) where
+    there : headOf r ≡ headAt (kept .mode) s (start + 1)
+    there = rw em at er
+
     pub head-none : {x : Refusal} {p : ℕ} → r ≡ HeadRead.Refused x p → commandOf (CommandRead.Refused x p) ≡ told (commandAt kept s start room)
     unfolding commandAt told commandOf headOf
-    head-none g = rw (lt-ltb start (length s) h, ← er, g)
+    head-none g = rw (lt-ltb start (length s) h, ← there, g)
 
     pub kept-none : (l : List ℤ) {x : Refusal} {p : ℕ} → r ≡ HeadRead.Refused x p → l ≡ afterEntries (commandAt kept s start room) l
     unfolding commandAt afterEntries headOf
-    kept-none l g = rw (lt-ltb start (length s) h, ← er, g)
+    kept-none l g = rw (lt-ltb start (length s) h, ← there, g)
 
-    module _ {a b : ℕ} {k : Kind} (g : r ≡ Head a b k) where
-      pub command-is : {q : Answer ToldCommand} → q ≡ told (bodyAt kept a b (kindMeant k) s start room) → q ≡ told (commandAt kept s start room)
+    module _ {l : TakenLetters} (g : r ≡ Head l) where
+      pub command-is : {q : Answer ToldCommand} → q ≡ told (bodyAt kept (lettersOf l) s start room) → q ≡ told (commandAt kept s start room)
       unfolding commandAt headOf
-      command-is j = rw (lt-ltb start (length s) h, ← er, g) j
+      command-is j = rw (lt-ltb start (length s) h, ← there, g) j
 
-      pub entries-are : (l : List ℤ) {o : List ℤ} → o ≡ afterEntries (bodyAt kept a b (kindMeant k) s start room) l → o ≡ afterEntries (commandAt kept s start room) l
+      pub entries-are : (es : List ℤ) {o : List ℤ} → o ≡ afterEntries (bodyAt kept (lettersOf l) s start room) es → o ≡ afterEntries (commandAt kept s start room) es
       unfolding commandAt headOf
-      entries-are l j = rw (lt-ltb start (length s) h, ← er, g) j
+      entries-are es j = rw (lt-ltb start (length s) h, ← there, g) j

@@ -1,2 +1,3 @@
 pub mod Heads
 pub mod Coinciding
+pub mod Modes

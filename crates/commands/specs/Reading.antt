@@ -5,50 +5,61 @@ use lib.ListN.{length, getD}
 use lib.Seq.{sets}
 use lib.Dec.{ltb, leb, eqb}
 use lib.IntN.{ℤ}
+use Rattle.memory.specs.declared.DelMode.{DelMode}
 use Rattle.memory.specs.declared.Remembered.{Remembered}
 use Rattle.refusals.specs.Refusals.{numberOf}
-use Rattle.refusals.specs.Answers.{Answer, done, refused, then, pick}
+use Rattle.refusals.specs.Answers.{Answer, done, refused, Read, then, pick}
+use Rattle.wire.specs.Taking.{pastDels}
 use Rattle.table.specs.Table.{ParameterKind, Tabled, inTable, notInTable, kindMeant, begins, kindOf}
-use Rattle.parameters.specs.declared.Parameters.{Parameters}
+use Rattle.parameters.specs.declared.TakenParameters.{TakenParameters}
 use Rattle.parameters.specs.Shapes.{Tailed, Value, shapeOf, valuesOf, tailOf}
 use Rattle.parameters.specs.Looking.{Parsed, parametersAt, parsedEntries}
 use Rattle.commands.specs.declared.TakenCommand.{TakenCommand}
 use Rattle.commands.specs.declared.CommandRead.{CommandRead}
 use Rattle.commands.specs.declared.CommandRead.the-variants.{Whole}
-use Rattle.commands.specs.declared.LetterRead.{LetterRead}
-use Rattle.commands.specs.declared.LetterRead.the-variants.{Letter}
+use Rattle.commands.specs.declared.TakenLetters.{TakenLetters}
 use Rattle.commands.specs.declared.HeadRead.{HeadRead}
 use Rattle.commands.specs.declared.HeadRead.the-variants.{Head}
+use Rattle.commands.specs.Behind.{leading, afterLetters, afterCommand}
 
 -- ---- the letters
 
--- "An op letter of 27 is refusal 6 there."
-unfoldable pub letterAt : List ℕ → ℕ → Answer ℕ
-letterAt s at = pick (ltb at (length s)) (pick (eqb (getD s at 0) 27) (refused 6 at) (done (getD s at 0))) (refused 1 (length s))
+-- the letter at at: "An op letter of 27 is refusal 6 there."
+unfoldable pub letterHere : List ℕ → ℕ → Answer (Read ℕ)
+letterHere s at =
+    pick (ltb at (length s))
+    (pick (eqb (getD s at 0) 27) (refused 6 at) (done (record { value = getD s at 0; place = at; next = at + 1 })))
+    (refused 1 (length s))
 
-unfoldable pub letterOf : LetterRead → Answer ℕ
-letterOf (Letter b) = done b
-letterOf (LetterRead.Refused e p) = refused (numberOf e) p
+-- "each plain 127, in text, between letters or in a parameter, is passed over"
+abbrev pub letterAt : DelMode → List ℕ → ℕ → Answer (Read ℕ)
+letterAt mode s at = letterHere s (pastDels mode s at)
 
+-- the letters, their kind, and where the parameters start
 pub record Letters : Type 0 where
   pub first : ℕ
   pub second : ℕ
   pub kind : ParameterKind
+  pub next : ℕ
+
+abbrev pub lettersOf : TakenLetters → Letters
+lettersOf h = record { first = h .first; second = h .second; kind = kindMeant (h .kind); next = h .next }
 
 unfoldable pub headOf : HeadRead → Answer Letters
-headOf (Head a b k) = done (record { first = a; second = b; kind = kindMeant k })
+headOf (Head h) = done (lettersOf h)
 headOf (HeadRead.Refused e p) = refused (numberOf e) p
 
-abbrev pub completed : ℕ → ℕ → ℕ → Tabled → Answer Letters
-completed a b at (inTable k) = done (record { first = a; second = b; kind = k })
-completed a b at notInTable = refused 2 at
+abbrev pub completed : ℕ → Read ℕ → Tabled → Answer Letters
+completed a b (inTable k) = done (record { first = a; second = b .value; kind = k; next = b .next })
+completed a b notInTable = refused 2 (b .place)
 
 -- "A first letter that begins no command, or a second that completes none, is refusal 2 there."
-unfoldable pub secondAt : ℕ → List ℕ → ℕ → Answer Letters
-secondAt a s at = then (letterAt s at) (λ b. completed a b at (kindOf a b))
+unfoldable pub secondAt : DelMode → ℕ → List ℕ → ℕ → Answer Letters
+secondAt mode a s at = then (letterAt mode s at) (λ b. completed a b (kindOf a (b .value)))
 
-unfoldable pub headAt : List ℕ → ℕ → Answer Letters
-headAt s at = then (letterAt s at) (λ a. pick (begins a) (secondAt a s (at + 1)) (refused 2 at))
+unfoldable pub headAt : DelMode → List ℕ → ℕ → Answer Letters
+headAt mode s at =
+    then (letterAt mode s at) (λ a. pick (begins (a .value)) (secondAt mode (a .value) s (a .next)) (refused 2 (a .place)))
 
 -- ---- the whole command
 
@@ -63,29 +74,27 @@ pub record Meaning : Type 0 where
   pub next : ℕ
   pub kept : Remembered
 
-abbrev pub meaning : ℕ → ℕ → List ℕ → Parsed → Meaning
-meaning a b s p = record {
-  first = a;
-  second = b;
+abbrev pub meaning : Remembered → Letters → List ℕ → Parsed → Meaning
+meaning kept h s p = record {
+  first = h .first;
+  second = h .second;
   values = p .values;
   tail = p .tail;
   count = p .count;
   entries = parsedEntries s p;
   next = p .next;
-  kept = p .kept;
+  kept = afterCommand kept (h .first) (h .second) (p .values);
 }
 
 -- "Refusal 7 comes only for a whole command; its place is the command's start"
-unfoldable pub bodyAt : Remembered → ℕ → ℕ → ParameterKind → List ℕ → ℕ → ℕ → Answer Meaning
-bodyAt kept a b k s start room =
-    then (parametersAt kept (shapeOf k) s (start + 3)) (λ p. pick (leb (p .count) room) (done (meaning a b s p)) (refused 7 start))
+unfoldable pub bodyAt : Remembered → Letters → List ℕ → ℕ → ℕ → Answer Meaning
+bodyAt kept h s start room =
+    then (parametersAt kept (shapeOf (h .kind)) s (h .next)) (λ p. pick (leb (p .count) room) (done (meaning kept h s p)) (refused 7 start))
 
 -- the command whose ESC is at start, with so much room for its entries
 unfoldable pub commandAt : Remembered → List ℕ → ℕ → ℕ → Answer Meaning
 commandAt kept s start room =
-    pick (ltb start (length s))
-    (then (headAt s (start + 1)) (λ h. bodyAt kept (h .first) (h .second) (h .kind) s start room))
-    (refused 1 (length s))
+    pick (ltb start (length s)) (then (headAt (kept .mode) s (start + 1)) (λ h. bodyAt kept h s start room)) (refused 1 (length s))
 
 -- ---- what the answer says, and the lent list behind it
 
@@ -114,6 +123,15 @@ tellTaken t = record {
   count = t .count;
   next = t .next;
   kept = t .kept;
+}
+
+-- the code's command of two letters and of the parameters that were read behind them
+unfoldable pub commandOfLetters : (first second : ℕ) → TakenParameters → TakenCommand
+commandOfLetters first second t = record {
+  command = record { first = first; second = second; parameters = t .parameters };
+  count = t .run .count;
+  next = t .next;
+  kept = afterLetters (t .kept) first second (leading (valuesOf (t .parameters)));
 }
 
 unfoldable pub commandOf : CommandRead → Answer ToldCommand

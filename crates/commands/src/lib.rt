@@ -1,15 +1,20 @@
 // A whole command, read: ESC, two capital letters, then its parameters.
 ghost use mathlib.Core.Path.{_≡_};
 ghost use lib.ListN.{length};
-ghost use Rattle.table.specs.Table.{kindMeant};
-ghost use Rattle.commands.specs.Reading.{letterOf, letterAt, headOf, secondAt, headAt, bodyAt, commandOf, commandAt, told, afterEntries};
-ghost use Prim.Native.Nat.{_<_, _≤_};
+ghost use Rattle.wire.specs.Taking.{byteOf};
+ghost use Rattle.parameters.specs.Shapes.{valuesOf};
+ghost use Rattle.commands.specs.Behind.{leading, isIgnoreDeletes, modeBy, afterLetters};
+ghost use Rattle.commands.specs.Reading.{letterAt, lettersOf, headOf, secondAt, headAt, commandOfLetters, bodyAt, commandOf, commandAt, told, afterEntries};
+use memory::DelMode;
 use memory::Remembered;
 use parameters::Parameters;
 use parameters::ParametersRead;
+use parameters::TakenParameters;
 use refusals::Refusal;
 use table::Found;
 use table::Kind;
+use wire::ByteRead;
+use wire::TakenByte;
 
 pub struct Command {
     pub first: u8,
@@ -31,96 +36,184 @@ pub enum CommandRead {
     Refused(Refusal, usize),
 }
 
-enum LetterRead {
-    Letter(u8),
-    Refused(Refusal, usize),
+// Two letters, the kind of their parameters, and where these start.
+struct TakenLetters {
+    first: u8,
+    second: u8,
+    kind: Kind,
+    next: usize,
 }
 
 enum HeadRead {
-    // the letters and their kind
-    Head(u8, u8, Kind),
+    Head(TakenLetters),
     Refused(Refusal, usize),
 }
 
 // An op letter. There are no pairs among the letters.
-fn letter(s: &[u8], at: usize) -> LetterRead
-    ensures { λ r. ⌜ letterOf r ≡ letterAt (now (s .entry)) at ⌝ }
+fn letter(mode: DelMode, s: &[u8], at: usize) -> ByteRead
+    ensures { λ r. ⌜ byteOf r ≡ letterAt mode (now (s .entry)) at ⌝ }
 {
-    if at >= s.len() {
-        return LetterRead::Refused(Refusal::BytesEnd, s.len());
+    let place = wire::past_dels(mode, s, at);
+    if place >= s.len() {
+        return ByteRead::Refused(Refusal::BytesEnd, s.len());
     }
-    let b = s[at];
+    let b = s[place];
     if b == 27 {
-        return LetterRead::Refused(Refusal::NewEscape, at);
+        return ByteRead::Refused(Refusal::NewEscape, place);
     }
-    LetterRead::Letter(b)
+    let next = place + 1;
+    let byte = TakenByte {
+        value: b,
+        place: place,
+        next: next,
+    };
+    ByteRead::Byte(byte)
 }
 
-fn second_letter(first: u8, s: &[u8], at: usize) -> HeadRead
-    ensures { λ r. ⌜ headOf r ≡ secondAt first (now (s .entry)) at ⌝ }
+fn second_letter(mode: DelMode, first: u8, s: &[u8], at: usize) -> HeadRead
+    ensures { λ r. ⌜ headOf r ≡ secondAt mode first (now (s .entry)) at ⌝ }
 {
-    match letter(s, at) {
-        LetterRead::Letter(second) => match table::kind_of(first, second) {
-            Found::Is(kind) => HeadRead::Head(first, second, kind),
-            Found::NoKind => HeadRead::Refused(Refusal::UnknownCommand, at),
-        },
-        LetterRead::Refused(e, p) => HeadRead::Refused(e, p),
+    match letter(mode, s, at) {
+        ByteRead::Byte(byte) => {
+            let second = byte.value;
+            match table::kind_of(first, second) {
+                Found::Is(kind) => {
+                    let letters = TakenLetters {
+                        first: first,
+                        second: second,
+                        kind: kind,
+                        next: byte.next,
+                    };
+                    HeadRead::Head(letters)
+                }
+                Found::NoKind => HeadRead::Refused(Refusal::UnknownCommand, byte.place),
+            }
+        }
+        ByteRead::Refused(e, p) => HeadRead::Refused(e, p),
     }
 }
 
 // The two letters behind the ESC.
-fn head(s: &[u8], at: usize) -> HeadRead
-    requires { ⌜ at ≤ length (now s) ⌝ }
-    ensures { λ r. ⌜ headOf r ≡ headAt (now (s .entry)) at ⌝ }
+fn head(mode: DelMode, s: &[u8], at: usize) -> HeadRead
+    ensures { λ r. ⌜ headOf r ≡ headAt mode (now (s .entry)) at ⌝ }
 {
-    match letter(s, at) {
-        LetterRead::Letter(first) => {
+    match letter(mode, s, at) {
+        ByteRead::Byte(byte) => {
+            let first = byte.value;
             if table::begins_command(first) {
-                let next = at + 1;
-                return second_letter(first, s, next);
+                return second_letter(mode, first, s, byte.next);
             }
-            HeadRead::Refused(Refusal::UnknownCommand, at)
+            HeadRead::Refused(Refusal::UnknownCommand, byte.place)
         }
-        LetterRead::Refused(e, p) => HeadRead::Refused(e, p),
+        ByteRead::Refused(e, p) => HeadRead::Refused(e, p),
+    }
+}
+
+// ---- what is remembered behind a command
+
+// The first number of a command; the parameters of KI and of KX are one integer.
+pub fn leading_number(parameters: Parameters) -> i32
+    ensures { λ r. ⌜ r ≡ leading (valuesOf parameters) ⌝ }
+{
+    let numbers = parameters::numbers_of(parameters);
+    let values = numbers.values;
+    values[0]
+}
+
+// The letters of IGNORE DELETES.
+fn is_ignore_deletes(first: u8, second: u8) -> bool
+    ensures { λ r. ⌜ r ≡ isIgnoreDeletes first second ⌝ }
+{
+    if first == b'K' {
+        return second == b'I';
+    }
+    false
+}
+
+// The mode behind KI with this number.
+fn mode_by(mode: DelMode, number: i32) -> DelMode
+    ensures { λ r. ⌜ r ≡ modeBy mode number ⌝ }
+{
+    if signs::is_negative(number) {
+        return mode;
+    }
+    let size = signs::magnitude(number);
+    if size == 0 {
+        return DelMode::Data;
+    }
+    if size == 1 {
+        return DelMode::Filler;
+    }
+    mode
+}
+
+// What is remembered behind a command with these letters and this first number, whose values left `kept`.
+pub fn after_letters(kept: Remembered, first: u8, second: u8, number: i32) -> Remembered
+    ensures { λ r. ⌜ r ≡ afterLetters kept first second number ⌝ }
+{
+    if is_ignore_deletes(first, second) {
+        let before = kept.mode;
+        let mode = mode_by(before, number);
+        return memory::with_mode(kept, mode);
+    }
+    kept
+}
+
+// The same where the first number is still in the parameters: only KI is asked for it.
+pub fn after_parameters(kept: Remembered, first: u8, second: u8, parameters: Parameters) -> Remembered
+    ensures { λ r. ⌜ r ≡ afterLetters kept first second (leading (valuesOf parameters)) ⌝ }
+{
+    if is_ignore_deletes(first, second) {
+        return after_letters(kept, first, second, leading_number(parameters));
+    }
+    kept
+}
+
+// ---- the whole command
+
+// The command of two letters and the parameters that were read behind them.
+fn with_letters(first: u8, second: u8, taken: TakenParameters) -> TakenCommand
+    ensures { λ r. ⌜ r ≡ commandOfLetters first second taken ⌝ }
+{
+    let parameters = taken.parameters;
+    let run = taken.run;
+    let left = taken.kept;
+    let after = after_parameters(left, first, second, parameters);
+    let command = Command {
+        first: first,
+        second: second,
+        parameters: parameters,
+    };
+    TakenCommand {
+        command: command,
+        count: run.count,
+        next: taken.next,
+        kept: after,
     }
 }
 
 // The parameters of the command whose ESC is at `start` and whose letters are known.
 fn body(
     kept: Remembered,
-    first: u8,
-    second: u8,
-    kind: Kind,
+    letters: TakenLetters,
     s: &[u8],
     start: usize,
     list: &mut [i32],
 ) -> CommandRead
-    requires { ⌜ start < length (now s) ⌝ }
-    ensures { λ r. ⌜ (commandOf r ≡ told (bodyAt kept first second (kindMeant kind) (now (s .entry)) start (length (now (list .entry))))) × (now (list .exit) ≡ afterEntries (bodyAt kept first second (kindMeant kind) (now (s .entry)) start (length (now (list .entry)))) (now (list .entry))) ⌝ }
+    ensures { λ r. ⌜ (commandOf r ≡ told (bodyAt kept (lettersOf letters) (now (s .entry)) start (length (now (list .entry))))) × (now (list .exit) ≡ afterEntries (bodyAt kept (lettersOf letters) (now (s .entry)) start (length (now (list .entry)))) (now (list .entry))) ⌝ }
 {
-    let from = start + 3;
+    let kind = letters.kind;
+    let first = letters.first;
+    let second = letters.second;
     let room = list.len();
-    match parameters::look_at(kept, kind, s, from, list) {
+    match parameters::look_at(kept, kind, s, letters.next, list) {
         ParametersRead::Whole(taken) => {
             let run = taken.run;
             let count = run.count;
             if count > room {
                 return CommandRead::Refused(Refusal::TooShort, start);
             }
-            let parameters = taken.parameters;
-            let command = Command {
-                first: first,
-                second: second,
-                parameters: parameters,
-            };
-            let after = taken.kept;
-            let whole = TakenCommand {
-                command: command,
-                count: count,
-                next: taken.next,
-                kept: after,
-            };
-            CommandRead::Whole(whole)
+            CommandRead::Whole(with_letters(first, second, taken))
         }
         ParametersRead::Refused(e, p) => CommandRead::Refused(e, p),
     }
@@ -134,9 +227,10 @@ pub fn read_command(kept: Remembered, s: &[u8], start: usize, list: &mut [i32]) 
     if start >= s.len() {
         return CommandRead::Refused(Refusal::BytesEnd, s.len());
     }
-    let letters = start + 1;
-    match head(s, letters) {
-        HeadRead::Head(first, second, kind) => body(kept, first, second, kind, s, start, list),
+    let mode = kept.mode;
+    let from = start + 1;
+    match head(mode, s, from) {
+        HeadRead::Head(letters) => body(kept, letters, s, start, list),
         HeadRead::Refused(e, p) => CommandRead::Refused(e, p),
     }
 }

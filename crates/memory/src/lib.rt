@@ -1,23 +1,34 @@
 // What reading remembers from one command to the next, and writing likewise: one struct, handed on whole.
 ghost use mathlib.Core.Path.{_≡_};
-ghost use Rattle.memory.specs.Memory.{freshMemory, inside, remember};
+ghost use Rattle.memory.specs.Memory.{freshMemory, inside, remember, inMode};
 
 pub struct Point {
     pub x: u16,
     pub y: u16,
 }
 
+// What a plain 127 is: "data wherever a parameter allows it", or, after KI 1, filler, which is "passed over".
+pub enum DelMode {
+    Data,
+    Filler,
+}
+
 pub struct Remembered {
     // the last point
     pub point: Point,
+    // the DEL mode
+    pub mode: DelMode,
 }
 
-// "A fresh remembered point is (0,0)."
+// "A fresh remembered point is (0,0)." "The mode goes with the remembered point, fresh 0."
 pub fn fresh() -> Remembered
     ensures { λ r. ⌜ r ≡ freshMemory ⌝ }
 {
     let point = Point { x: 0, y: 0 };
-    Remembered { point: point }
+    Remembered {
+        point: point,
+        mode: DelMode::Data,
+    }
 }
 
 // "x and y 0..4095"
@@ -37,4 +48,15 @@ pub fn with_point(kept: Remembered, point: Point) -> Remembered
     let mut after = kept;
     after.point = point;
     after
+}
+
+// What is remembered once KI has set this mode.
+pub fn with_mode(kept: Remembered, mode: DelMode) -> Remembered
+    ensures { λ r. ⌜ r ≡ inMode kept mode ⌝ }
+{
+    let point = kept.point;
+    Remembered {
+        point: point,
+        mode: mode,
+    }
 }

@@ -4,7 +4,7 @@ use mathlib.Core.Path.{_≡_, refl, sym, _∙_, ap}
 use mathlib.Core.Bool.{Bool, true, false}
 use mathlib.Core.List.{List, [], _∷_, _++_}
 use native.Mathlib.Omega.{arith}
-use borrow.Author.Tests.{le-leb, leb-true, ltb-true, ltb-false}
+use borrow.Author.Tests.{lt-ltb, le-ltb, le-leb, eq-eqb, ne-eqb, leb-true, ltb-false}
 use lib.Dec.{ltb, leb}
 use lib.ListN.{length, length-append}
 use lib.IntN.{ℤ, pos, negsuc, natAbs}
@@ -13,37 +13,81 @@ use Rattle.refusals.specs.Answers.{Answer, done, refused, Read}
 use Rattle.refusals.proofs.Cases.{by-pick, by-then, Done, done-of, is-done, not-done, zero-one}
 use Rattle.wire.specs.Taking.{byteAt}
 use Rattle.wire.specs.Sending.{sent}
-use Rattle.wire.proofs.Feeds.{took}
+use Rattle.wire.proofs.Sendings.{sent-none, sent-append}
+use Rattle.wire.proofs.Feeds.{took, took-least, one-most, one-cheap}
 use Rattle.signs.specs.Signs.{signedOf, isNegative, mostMagnitude, isInteger}
 use Rattle.numbers.specs.Integers.{integerFrom, integerAt, inRange, lowOf, highsOf, spellOf, spell}
 use Rattle.numbers.specs.Counts.{asCount, countIn, countAt}
-use Rattle.numbers.proofs.Spelling.{spell-one, spell-two, spell-three}
-use Rattle.numbers.proofs.RoundTrip.{ways}
+use Rattle.numbers.proofs.RoundTrip.{ways, limit-least, low-range}
 
--- how long a spelling can be
-short : (m : ℕ) (t : Bool) → (m < 16 → length (spellOf m t) ≤ 1) × ((m < 1024 → length (spellOf m t) ≤ 2) × (length (spellOf m t) ≤ 3))
-short m t =
-    ways (m / 16)
-    (λ h. rw (← spell-one m t refl h) ((λ i. omega arith), ((λ i. omega arith), omega arith)))
-    (λ h g. rw (← spell-two m t refl h g) ((λ i. absurd (h (omega arith))), ((λ i. omega arith), omega arith)))
-    (λ h. rw (← spell-three m t refl h) ((λ i. omega arith), ((λ i. omega arith), omega arith)))
+-- ---- what high bytes cost
 
-pub spell-few : (v : ℤ) → length (spell v) ≤ 3
-spell-few v = short (natAbs v) (isNegative v) .1 .1
+highs-none : (h : ℕ) → h ≡ 0 → highsOf h ≡ []
+unfolding highsOf
+highs-none h e = rw (eq-eqb h 0 e)
+
+highs-one : (h b : ℕ) → (h ≡ 0 → ⊥) → h < 64 → b ≡ 64 + h → highsOf h ≡ b ∷ []
+unfolding highsOf
+highs-one h b n l e = let z : 64 + h % 64 ≡ b = omega arith in rw (ne-eqb h 0 n, lt-ltb h 64 l, z)
+
+highs-two : (h a b : ℕ) → 64 ≤ h → a ≡ 64 + h / 64 → b ≡ 64 + h % 64 → highsOf h ≡ a ∷ b ∷ []
+unfolding highsOf
+highs-two h a b l e f = rw (ne-eqb h 0 (λ q. omega arith), le-ltb h 64 l, ← e, ← f)
+
+module _ (kept : Remembered) where
+  abbrev cost : List ℕ → ℕ
+  cost w = length (sent kept w)
+
+  free : cost [] ≡ 0
+  free = ap length (sent-none kept)
+
+  pub both-cost : (v w : List ℕ) → cost (v ++ w) ≡ cost v + cost w
+  both-cost v w = ap length (sent-append kept v w) ∙ length-append (sent kept v) (sent kept w)
+
+  -- one more high byte costs no more than it did when it was read
+  one-more : (h b : ℕ) → h < 64 → 64 ≤ b → b ≤ 127 → cost (highsOf (h * 64 + b % 64)) ≤ cost (highsOf h) + cost (b ∷ [])
+  one-more h b l lo hi =
+      ways h
+      (λ e. ways (h * 64 + b % 64)
+      (λ f. rw (highs-none (h * 64 + b % 64) f, free) (omega arith))
+      (λ n g. rw (highs-one (h * 64 + b % 64) b n g (omega arith)) (omega arith))
+      (λ g. absurd (omega arith)))
+      (λ n g.
+      let one = highs-one h (64 + h) n g refl in
+      let two = highs-two (h * 64 + b % 64) (64 + h) b (omega arith) (omega arith) (omega arith) in
+      rw (one, two) (omega (arith, both-cost ((64 + h) ∷ []) (b ∷ []))))
+      (λ g. absurd (omega arith))
+
+  -- the low byte is none that costs two
+  spelled-cost : (m : ℕ) (t : Bool) → cost (spellOf m t) ≡ cost (highsOf (m / 16)) + 1
+  unfolding spellOf
+  spelled-cost m t =
+      let r = low-range m t in
+      both-cost (highsOf (m / 16)) (lowOf m t ∷ []) ∙ ap (λ (k : ℕ). cost (highsOf (m / 16)) + k) (one-cheap kept (lowOf m t) (λ q. omega (arith, r .1, q)))
+
+  -- the first of two high bytes is at most 96, so no integer takes more than four
+  highs-few : (h : ℕ) → h ≤ 2048 → cost (highsOf h) ≤ 3
+  highs-few h l =
+      ways h
+      (λ e. rw (highs-none h e, free) (omega arith))
+      (λ n g. rw (highs-one h (64 + h) n g refl) (omega (arith, one-most kept (64 + h))))
+      (λ g. rw (highs-two h (64 + h / 64) (64 + h % 64) g refl refl)
+      (omega (arith, both-cost ((64 + h / 64) ∷ []) ((64 + h % 64) ∷ []), one-most kept (64 + h % 64), one-cheap kept (64 + h / 64) (λ q. omega arith))))
+
+  pub integer-few : (v : ℤ) → isInteger v ≡ true → cost (spell v) ≤ 4
+  integer-few v ok =
+      let q = leb-true (natAbs v) (mostMagnitude (isNegative v)) ok in
+      omega (arith, spelled-cost (natAbs v) (isNegative v), highs-few (natAbs v / 16) (omega (arith, q, limit-least (isNegative v))))
 
 magnitude-back : (m : ℕ) (t : Bool) → natAbs (signedOf m t) ≡ m
 magnitude-back zero true = refl
 magnitude-back (suc m) true = refl
 magnitude-back m false = refl
 
--- the sign takes no byte of its own
-signless : (m : ℕ) (t u : Bool) → length (spellOf m t) ≡ length (spellOf m u)
-unfolding spellOf
-signless m t u = length-append (highsOf (m / 16)) (lowOf m t ∷ []) ∙ sym (length-append (highsOf (m / 16)) (lowOf m u ∷ []))
-
-spelled-long : (m : ℕ) (t : Bool) → length (spell (signedOf m t)) ≡ length (spellOf m t)
-spelled-long m t =
-    ap (λ (k : ℕ). length (spellOf k (isNegative (signedOf m t)))) (magnitude-back m t) ∙ signless m (isNegative (signedOf m t)) t
+-- the sign costs nothing of its own
+spelled-long : (kept : Remembered) (m : ℕ) (t : Bool) → cost kept (spell (signedOf m t)) ≡ cost kept (spellOf m t)
+spelled-long kept m t =
+    ap (λ (k : ℕ). cost kept (spellOf k (isNegative (signedOf m t)))) (magnitude-back m t) ∙ spelled-cost kept m (isNegative (signedOf m t)) ∙ sym (spelled-cost kept m t)
 
 -- a magnitude in its range, with its sign, is an integer; minus nought is 0
 integer-made : (m : ℕ) (t : Bool) → m ≤ mostMagnitude t → isInteger (signedOf m t) ≡ true
@@ -62,48 +106,51 @@ module _ (kept : Remembered) (s : List ℕ) (at : ℕ) where
   abbrev Good : Answer (Read ℤ) → Type 0
   Good = Done (Shown kept s at)
 
-  in-range : (m : ℕ) (t : Bool) (p n : ℕ) → at + length (spellOf m t) ≤ n → at < n → n ≤ length s → Good (inRange m t p n)
-  unfolding sent
+  in-range : (m : ℕ) (t : Bool) (p n : ℕ) → at + cost kept (spellOf m t) ≤ n → at < n → n ≤ length s → Good (inRange m t p n)
   in-range m t p n h f w =
       by-pick Good (leb m (mostMagnitude t)) _ _
       (λ e. is-done (Shown kept s at) (record {
         writable = integer-made m t (leb-true m (mostMagnitude t) e);
-        shortest = rw (spelled-long m t) h;
+        shortest = rw (spelled-long kept m t) h;
         forward = f;
         within = w;
       }))
       (λ e. not-done (Shown kept s at) 4 p)
 
-  -- after k bytes that were taken up to here, with the value h
-  low : (h b p n : ℕ) → at + length (spellOf (h * 16 + b % 16) (ltb b 48)) ≤ n → at < n → n ≤ length s → Good (inRange (h * 16 + b % 16) (ltb b 48) p n)
-  low h b p n = in-range (h * 16 + b % 16) (ltb b 48) p n
+  -- behind high bytes of value h, which cost no more than was read of them up to from: the low byte
+  low : (h from : ℕ) (b : Read ℕ) → at + cost kept (highsOf h) ≤ from → byteAt kept s from ≡ done b → Good (inRange (h * 16 + b .value % 16) (ltb (b .value) 48) (b .place) (b .next))
+  low h from b f e =
+      let t = took kept s from e in
+      let m = h * 16 + b .value % 16 in
+      let z : m / 16 ≡ h = omega arith in
+      let c : cost kept (spellOf m (ltb (b .value) 48)) ≡ cost kept (highsOf h) + 1 = spelled-cost kept m (ltb (b .value) 48) ∙ ap (λ (k : ℕ). cost kept (highsOf k) + 1) z in
+      in-range m (ltb (b .value) 48) (b .place) (b .next) (omega (arith, c, t .forward)) (omega (arith, t .forward)) (t .within)
 
-  third : (at₂ h : ℕ) → at + 2 ≤ at₂ → Good (integerFrom kept 0 h s at₂)
+  third : (h from : ℕ) → at + cost kept (highsOf h) ≤ from → Good (integerFrom kept 0 h s from)
   unfolding integerFrom
-  third at₂ h f =
-      by-then Good (byteAt kept s at₂) _
-      (λ b e. by-pick Good (ltb (b .value) 64) _ _
-      (λ l. let t = took kept s at₂ e in low h (b .value) (b .place) (b .next) (omega (arith, t .forward, short (h * 16 + b .value % 16) (ltb (b .value) 48) .1 .1)) (omega (arith, t .forward)) (t .within))
-      (λ l. not-done (Shown kept s at) 4 (b .place)))
+  third h from f =
+      by-then Good (byteAt kept s from) _
+      (λ b e. by-pick Good (ltb (b .value) 64) _ _ (λ l. low h from b f e) (λ l. not-done (Shown kept s at) 4 (b .place)))
       (λ x p e. not-done (Shown kept s at) x p)
 
-  second : (at₁ h : ℕ) → at + 1 ≤ at₁ → h < 64 → Good (integerFrom kept 1 h s at₁)
+  -- a high byte, or the low one
+  before : (k h from : ℕ) → h < 64 → at + cost kept (highsOf h) ≤ from → ((g next : ℕ) → g < h * 64 + 64 → at + cost kept (highsOf g) ≤ next → Good (integerFrom kept k g s next)) → Good (integerFrom kept (suc k) h s from)
   unfolding integerFrom
-  second at₁ h f z =
-      by-then Good (byteAt kept s at₁) _
-      (λ b e. let t = took kept s at₁ e in by-pick Good (ltb (b .value) 64) _ _
-      (λ l. low h (b .value) (b .place) (b .next) (omega (arith, t .forward, short (h * 16 + b .value % 16) (ltb (b .value) 48) .1 .0 (omega arith))) (omega (arith, t .forward)) (t .within))
-      (λ l. third (b .next) (h * 64 + b .value % 64) (omega (arith, t .forward))))
+  before k h from l f rest =
+      by-then Good (byteAt kept s from) _
+      (λ b e. by-pick Good (ltb (b .value) 64) _ _
+      (λ i. low h from b f e)
+      (λ i.
+      let t = took kept s from e in
+      let c = one-more kept h (b .value) l (ltb-false (b .value) 64 i) (t .most) in
+      rest (h * 64 + b .value % 64) (b .next) (omega arith) (omega (arith, c, took-least kept s from e))))
       (λ x p e. not-done (Shown kept s at) x p)
 
   first : Good (integerAt kept s at)
-  unfolding integerFrom
   first =
-      by-then Good (byteAt kept s at) _
-      (λ b e. let t = took kept s at e in by-pick Good (ltb (b .value) 64) _ _
-      (λ l. low 0 (b .value) (b .place) (b .next) (omega (arith, t .forward, short (0 * 16 + b .value % 16) (ltb (b .value) 48) .0 (omega arith))) (t .forward) (t .within))
-      (λ l. second (b .next) (0 * 64 + b .value % 64) (omega (arith, t .forward)) (omega arith)))
-      (λ x p e. not-done (Shown kept s at) x p)
+      let none : at + cost kept (highsOf 0) ≤ at = rw (highs-none 0 refl, free kept) (omega arith) in
+      before 1 0 at (omega arith) none
+      (λ h from l f. before 0 h from (omega arith) f (λ g next i. third g next))
 
 pub integer-shown : (kept : Remembered) (s : List ℕ) (at : ℕ) {r : Read ℤ} → integerAt kept s at ≡ done r → Shown kept s at r
 integer-shown kept s at e = done-of (Shown kept s at) (first kept s at) e

@@ -2,3 +2,4 @@ pub mod Entering
 pub mod Looks
 pub mod Coinciding
 pub mod Numbered
+pub mod Kept

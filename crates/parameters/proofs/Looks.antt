@@ -184,7 +184,9 @@ module _ (kept : Remembered) (s : List ℕ) (at : ℕ) where
 
       pub two-points-is : {w : TakenPoint} {t : Answer Parsed} {l : Remembered} → q ≡ At w → t ≡ without (TwoPoints (v .value) (w .value)) (w .next) l → l ≡ remember k (w .value) → t ≡ parametersAt kept (shapeOf K.twoPoints) s at
       unfolding parametersAt fixedAt partAt tailAt lookOf pointOf
-      two-points-is h i j = rw (i, j, ← er, g, ← second, h)
+      two-points-is {w} {t} {l} h i j =
+          let both : l ≡ remember (remember kept (v .value)) (w .value) = j ∙ ap (λ (m : Remembered). remember m (w .value)) ek in
+          rw (i, both, ← er, g, ← second, h)
 
 pub ruleset fixeds = (one-integer-no, one-integer-is, two-integers-no, two-integers-is, real-no, real-is, three-integers-no, three-integers-short, three-integers-is, two-characters-no, two-characters-is, one-point-no, one-point-is, two-points-no, two-points-half, two-points-is)
 

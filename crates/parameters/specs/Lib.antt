@@ -2,3 +2,4 @@ pub mod Entries
 pub mod Shapes
 pub mod Numbers
 pub mod Looking
+pub mod Behind

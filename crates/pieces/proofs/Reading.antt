@@ -31,14 +31,6 @@ use Rattle.pieces.specs.Pieces.{Pieced, isCall, leading, commandPiece, i
 
 -- ---- a command
 
-first-of-four : (l : List ℤ) → getD (take 4 (l ++ noValues)) 0 (pos 0) ≡ getD l 0 (pos 0)
-first-of-four [] = refl
-first-of-four (v ∷ vs) = refl
-
-pub leads : (ps : Parameters) {r : Numbers} → Holds (valuesOf ps) r → getD (r .values) 0 (pos 0) ≡ leading (valuesOf ps)
-unfolding fourOf
-leads ps h = ap (λ (l : List ℤ). getD l 0 (pos 0)) (h .four) ∙ first-of-four (numbersOf (valuesOf ps))
-
 module _ (first second : ℕ) (values : List Value) (next : ℕ) (after : Remembered) {b : Bool} (eb : b ≡ isCall first second) where
   pub is-called : {a : ℤ} → b ≡ true → SFits w32 a → a ≡ leading values → pieceOf (Called (toZ w32 (ofZ w32 a)) next after) ≡ commandPiece first second values next after
   unfolding pieceOf commandPiece

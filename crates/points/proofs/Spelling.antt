@@ -15,7 +15,8 @@ use Rattle.memory.specs.declared.Remembered.{Remembered}
 use Rattle.memory.specs.declared.Point.{Point}
 use Rattle.memory.specs.Memory.{inside}
 use Rattle.wire.specs.Sending.{sent}
-use Rattle.wire.proofs.Writings.{sent-none, sent-long, more-size, more-stands}
+use Rattle.wire.proofs.Sendings.{sent-none, sent-long}
+use Rattle.wire.proofs.Writings.{more-size, more-stands}
 use Rattle.points.specs.declared.PointBytes.{PointBytes}
 use Rattle.points.specs.Layout.{bytesOf}
 use Rattle.points.specs.Writing.{part, upperBytes, spellBytes, spellPoint}

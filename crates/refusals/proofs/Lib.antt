@@ -3,3 +3,4 @@ pub mod Rules
 pub mod Cases
 pub mod Coinciding
 pub mod Many
+pub mod Passing

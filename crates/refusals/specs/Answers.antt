@@ -1,8 +1,9 @@
 -- What a call gives back, as document 01 counts it: 0 and the call's values, or a refusal's number and its place.
-use Prim.Native.Nat.{ℕ, zero, suc}
+use Prim.Native.Nat.{ℕ, zero, suc, _+_}
 use mathlib.Core.Path.{_≡_}
 use mathlib.Core.Bool.{Bool, true, false, _&&_}
 use mathlib.Core.List.{List, [], _∷_}
+use lib.ListN.{drop}
 
 pub data Answer (A : Type 0) : Type 0 where
   done : A → Answer A
@@ -46,6 +47,15 @@ demand ok e next = pick ok next e
 unfoldable pub every : {A : Type 0} → (A → Bool) → List A → Bool
 every ok [] = true
 every ok (x ∷ xs) = ok x && every ok xs
+
+-- how many of a list pass the test before the first that does not
+unfoldable pub inFront : {A : Type 0} → (A → Bool) → List A → ℕ
+inFront ok [] = 0
+inFront ok (x ∷ xs) = pick (ok x) (suc (inFront ok xs)) 0
+
+-- passing over bytes from at on: the place of the first that does not pass the test, or the end
+unfoldable pub pastFront : (ok : ℕ → Bool) → List ℕ → ℕ → ℕ
+pastFront ok s at = at + inFront ok (drop at s)
 
 -- k readings, one after the other: where they end, or the first refusal
 unfoldable pub endsAfter : {A : Type 0} → (ℕ → Answer (Read A)) → ℕ → ℕ → Answer ℕ

@@ -19,7 +19,8 @@ use Rattle.refusals.specs.declared.Refusal.{Refusal}
 use Rattle.refusals.specs.declared.Refusal.the-variants.{TooShort, NotValid}
 use Rattle.wire.specs.declared.Written.{Written}
 use Rattle.wire.specs.declared.Written.the-variants.{Next, Refused}
-use Rattle.wire.specs.Sending.{sent, isPlain, writtenOf, roomFor, inRoom, writeAt, writeIf, afterWrite, poured}
+use Rattle.wire.specs.Sending.{sent, writtenOf, roomFor, inRoom, writeAt, writeIf, afterWrite, poured}
+use Rattle.wire.proofs.Sendings.{sent-append, sent-long}
 
 -- what is left, laid from here, ends where the whole ends
 pub record Copying (w out₀ out : List ℕ) (at i : ℕ) : Type 0 where
@@ -97,9 +98,6 @@ accepted w room at e f j = rw (e, ← f) j
 pub standing : (w l : List ℕ) (at : ℕ) (q : Answer ℕ) {v o : List ℕ} → v ≡ w → o ≡ afterWrite q v l at → o ≡ afterWrite q w l at
 standing w l at q f j = rw (← f) j
 
-pub sent-same : (kept : Remembered) (w : List ℕ) {v : List ℕ} → v ≡ w → sent kept v ≡ sent kept w
-sent-same kept w e = ap (sent kept) e
-
 -- ---- as far as there is room
 
 -- where room was wanting, what is left lies behind the end
@@ -113,41 +111,6 @@ copying-end w out₀ out at i f e h = go (leb (length w) i) refl
 pub ruleset copyings = (copying-none, copying-more, copying-end)
 
 -- ---- byte by byte
-
--- bytes one behind the other are sent one behind the other
-sent-append : (kept : Remembered) (v w : List ℕ) → sent kept (v ++ w) ≡ sent kept v ++ sent kept w
-unfolding sent
-sent-append kept v w = refl
-
-pub sent-plain : (kept : Remembered) (w : List ℕ) → isPlain kept ≡ true → sent kept w ≡ w
-unfolding sent
-sent-plain kept w e = refl
-
-pub sent-none : (kept : Remembered) → sent kept [] ≡ []
-unfolding sent
-sent-none kept = refl
-
-pub sent-long : (kept : Remembered) (w : List ℕ) → length (sent kept w) ≤ 2 * length w
-unfolding sent
-sent-long kept w = omega arith
-
-module _ (kept : Remembered) (b : ℕ) where
-  pub one-size : 1 ≡ length (sent kept (b ∷ []))
-  unfolding sent
-  one-size = refl
-
-  pub one-past : (l : List ℕ) (at n : ℕ) → length l ≤ at → l ≡ sets l (at + n) (sent kept (b ∷ []))
-  one-past l at n h = sym (past-end l (at + n) (sent kept (b ∷ [])) (omega arith))
-
-  pub one-full : (l : List ℕ) (at n : ℕ) → at < length l → length l - at ≤ n → l ≡ sets l (at + n) (sent kept (b ∷ []))
-  one-full l at n h k = sym (past-end l (at + n) (sent kept (b ∷ [])) (omega arith))
-
-  pub one-stands : (l : List ℕ) (at n : ℕ) → set l (at + n) b ≡ sets l (at + n) (sent kept (b ∷ []))
-  unfolding sent
-  one-stands l at n = refl
-
-  pub one-first : (l : List ℕ) (at : ℕ) {o : List ℕ} → o ≡ sets l (at + 0) (sent kept (b ∷ [])) → o ≡ sets l at (sent kept (b ∷ []))
-  one-first l at j = let z : at + 0 ≡ at = omega arith in rw z at j
 
 sum-fits : (kept : Remembered) (v w : List ℕ) {n m : ℕ} → length v + length w ≤ 8 → n ≡ length (sent kept v) → m ≡ length (sent kept w) → Fits w64 (n + m)
 sum-fits kept v w {n} {m} h e f = fits-under w64 (n + m) 17 (omega (arith, e, f, sent-long kept v, sent-long kept w)) tt
@@ -177,8 +140,6 @@ three-size kept a b d = more-size kept (a ∷ b ∷ []) (d ∷ [])
 
 pub three-stand : (kept : Remembered) (a b d : ℕ) (l : List ℕ) (at : ℕ) {n : ℕ} {m o : List ℕ} → n ≡ length (sent kept (a ∷ b ∷ [])) → m ≡ sets l at (sent kept (a ∷ b ∷ [])) → o ≡ sets m (at + n) (sent kept (d ∷ [])) → o ≡ sets l at (sent kept (a ∷ b ∷ d ∷ []))
 three-stand kept a b d = more-stands kept (a ∷ b ∷ []) (d ∷ [])
-
-pub ruleset ones = (one-size, one-past, one-full, one-stands, one-first)
 
 pub ruleset more = (two-fit, three-fit, two-size, two-stand, three-size, three-stand)
 

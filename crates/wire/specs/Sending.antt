@@ -1,10 +1,12 @@
 -- Bytes that are written.
 use Prim.Native.Nat.{ℕ, _+_, _-_, min}
-use mathlib.Core.Bool.{Bool, true}
-use mathlib.Core.List.{List, []}
+use mathlib.Core.Bool.{Bool, true, false}
+use mathlib.Core.List.{List, [], _∷_, _++_}
 use lib.ListN.{length}
 use lib.Seq.{sets}
-use lib.Dec.{leb}
+use lib.Dec.{leb, eqb}
+use Rattle.memory.specs.declared.DelMode.{DelMode}
+use Rattle.memory.specs.declared.DelMode.the-variants.{Data, Filler}
 use Rattle.memory.specs.declared.Remembered.{Remembered}
 use Rattle.refusals.specs.Refusals.{numberOf}
 use Rattle.refusals.specs.Answers.{Answer, done, refused, pick}
@@ -16,13 +18,26 @@ unfoldable pub writtenOf : Written → Answer ℕ
 writtenOf (Next n) = done n
 writtenOf (Refused e) = refused (numberOf e) 0
 
--- a parameter's bytes as they are sent: each as itself, "the writer writes 127"
+-- "the writer in that mode writes it so": a 127 as the pair 27 63
+abbrev pub paired : ℕ → List ℕ
+paired b = pick (eqb b 127) (27 ∷ 63 ∷ []) (b ∷ [])
+
+-- a parameter's bytes as they are sent: where a plain 127 is data, each as itself, "the writer writes 127"
+unfoldable pub sentIn : DelMode → List ℕ → List ℕ
+sentIn Data w = w
+sentIn Filler [] = []
+sentIn Filler (b ∷ w) = paired b ++ sentIn Filler w
+
 unfoldable pub sent : Remembered → List ℕ → List ℕ
-sent kept w = w
+sent kept w = sentIn (kept .mode) w
 
 -- whether each byte is sent as itself, whatever it is
+unfoldable pub plainIn : DelMode → Bool
+plainIn Data = true
+plainIn Filler = false
+
 unfoldable pub isPlain : Remembered → Bool
-isPlain kept = true
+isPlain kept = plainIn (kept .mode)
 
 -- where so many bytes from at on end in so much room, or 7
 unfoldable pub roomFor : ℕ → ℕ → ℕ → Answer ℕ

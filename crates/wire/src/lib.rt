@@ -1,11 +1,13 @@
 // A parameter's bytes on the wire: the one place that knows how they are taken and how they are sent.
 ghost use mathlib.Core.Path.{_≡_};
-ghost use Prim.Native.Nat.{_<_, _+_};
+ghost use Prim.Native.Nat.{_+_};
 ghost use mathlib.Core.List.{[], _∷_};
 ghost use lib.ListN.{length};
 ghost use lib.Seq.{sets};
-ghost use Rattle.wire.specs.Taking.{byteAt, pairAt, byteOf, isItself, threeAhead};
+ghost use Rattle.refusals.specs.Answers.{pastFront};
+ghost use Rattle.wire.specs.Taking.{isDel, pastDels, pairAt, foundAt, byteAt, byteOf, isItself, threeAhead};
 ghost use Rattle.wire.specs.Sending.{sent, isPlain, roomFor, inRoom, writeAt, afterWrite, writtenOf};
+use memory::DelMode;
 use memory::Remembered;
 use refusals::Refusal;
 
@@ -28,17 +30,39 @@ pub enum Written {
     Refused(Refusal),
 }
 
-// What stands after the ESC at `at`.
-fn pair(s: &[u8], at: usize) -> ByteRead
-    requires { ⌜ at < length (now s) ⌝ }
-    ensures { λ r. ⌜ byteOf r ≡ pairAt (now (s .entry)) at ⌝ }
+// The first place from `at` on that holds no DEL, or the end.
+fn behind_dels(s: &[u8], at: usize) -> usize
+    ensures { λ r. ⌜ r ≡ pastFront isDel (now (s .entry)) at ⌝ }
 {
-    let place = at + 1;
+    let mut i = at;
+    while i < s.len() {
+        if s[i] != 127 {
+            return i;
+        }
+        i = i + 1;
+    }
+    i
+}
+
+// Where the next byte stands from `at` on: after KI 1 each plain 127 is passed over.
+pub fn past_dels(mode: DelMode, s: &[u8], at: usize) -> usize
+    ensures { λ r. ⌜ r ≡ pastDels mode (now (s .entry)) at ⌝ }
+{
+    match mode {
+        DelMode::Data => at,
+        DelMode::Filler => behind_dels(s, at),
+    }
+}
+
+// What the ESC at `esc` and the byte at `place` behind it are.
+fn pair(s: &[u8], esc: usize, place: usize) -> ByteRead
+    ensures { λ r. ⌜ byteOf r ≡ pairAt (now (s .entry)) esc place ⌝ }
+{
     if place >= s.len() {
         return ByteRead::Refused(Refusal::BytesEnd, s.len());
     }
     if s[place] == 63 {
-        let next = at + 2;
+        let next = place + 1;
         let byte = TakenByte {
             value: 127,
             place: place,
@@ -46,19 +70,20 @@ fn pair(s: &[u8], at: usize) -> ByteRead
         };
         return ByteRead::Byte(byte);
     }
-    ByteRead::Refused(Refusal::NewEscape, at)
+    ByteRead::Refused(Refusal::NewEscape, esc)
 }
 
-// The next byte of a parameter. Reading goes by what is remembered; today nothing in it changes how a byte is taken.
-pub fn take(kept: Remembered, s: &[u8], at: usize) -> ByteRead
-    ensures { λ r. ⌜ byteOf r ≡ byteAt kept (now (s .entry)) at ⌝ }
+// The byte that stands at `at`.
+fn found(mode: DelMode, s: &[u8], at: usize) -> ByteRead
+    ensures { λ r. ⌜ byteOf r ≡ foundAt mode (now (s .entry)) at ⌝ }
 {
     if at >= s.len() {
         return ByteRead::Refused(Refusal::BytesEnd, s.len());
     }
     let b = s[at];
     if b == 27 {
-        return pair(s, at);
+        let place = past_dels(mode, s, at + 1);
+        return pair(s, at, place);
     }
     if b < 32 {
         return ByteRead::Refused(Refusal::ByteNotAllowed, at);
@@ -73,6 +98,15 @@ pub fn take(kept: Remembered, s: &[u8], at: usize) -> ByteRead
         next: next,
     };
     ByteRead::Byte(byte)
+}
+
+// The next byte of a parameter.
+pub fn take(kept: Remembered, s: &[u8], at: usize) -> ByteRead
+    ensures { λ r. ⌜ byteOf r ≡ byteAt kept (now (s .entry)) at ⌝ }
+{
+    let mode = kept.mode;
+    let from = past_dels(mode, s, at);
+    found(mode, s, from)
 }
 
 // A byte that is taken as it stands: neither ESC nor DEL.
@@ -158,20 +192,59 @@ pub fn write_bytes(w: &[u8], out: &mut [u8], at: usize) -> Written
     }
 }
 
-// One byte of a parameter, as it is sent, behind the `n` bytes from `at` on, where there is room. It goes by value: bytes that are
-// stored only to be read again are slow to fetch.
-pub fn pour_behind(kept: Remembered, n: usize, b: u8, out: &mut [u8], at: usize) -> usize
-    ensures { λ r. ⌜ (r ≡ length (sent kept (b ∷ []))) × (now (out .exit) ≡ sets (now (out .entry)) (at + n) (sent kept (b ∷ []))) ⌝ }
+// One byte as it stands, behind the `n` bytes from `at` on, where there is room. It goes by value: bytes that are stored only to be read
+// again are slow to fetch.
+pub fn store_behind(n: usize, b: u8, out: &mut [u8], at: usize)
+    ensures { λ _. ⌜ now (out .exit) ≡ sets (now (out .entry)) (at + n) (b ∷ []) ⌝ }
 {
     let room = out.len();
     if at >= room {
-        return 1;
+        return;
     }
     if n >= room - at {
-        return 1;
+        return;
     }
     let to = at + n;
     out[to] = b;
+}
+
+// The pair 27 63, likewise.
+fn store_pair(n: usize, out: &mut [u8], at: usize)
+    ensures { λ _. ⌜ now (out .exit) ≡ sets (now (out .entry)) (at + n) (27 ∷ 63 ∷ []) ⌝ }
+{
+    if n >= out.len() {
+        return;
+    }
+    let next = n + 1;
+    store_behind(n, 27, out, at);
+    store_behind(next, 63, out, at);
+}
+
+// A 127 as it is sent: itself, or the pair.
+fn pour_del(kept: Remembered, n: usize, out: &mut [u8], at: usize) -> usize
+    ensures { λ r. ⌜ (r ≡ length (sent kept (127 ∷ []))) × (now (out .exit) ≡ sets (now (out .entry)) (at + n) (sent kept (127 ∷ []))) ⌝ }
+{
+    let mode = kept.mode;
+    match mode {
+        DelMode::Data => {
+            store_behind(n, 127, out, at);
+            1
+        }
+        DelMode::Filler => {
+            store_pair(n, out, at);
+            2
+        }
+    }
+}
+
+// One byte of a parameter, as it is sent, behind the `n` bytes from `at` on, as far as there is room.
+pub fn pour_behind(kept: Remembered, n: usize, b: u8, out: &mut [u8], at: usize) -> usize
+    ensures { λ r. ⌜ (r ≡ length (sent kept (b ∷ []))) × (now (out .exit) ≡ sets (now (out .entry)) (at + n) (sent kept (b ∷ []))) ⌝ }
+{
+    if b == 127 {
+        return pour_del(kept, n, out, at);
+    }
+    store_behind(n, b, out, at);
     1
 }
 
@@ -203,5 +276,9 @@ pub fn pour_three(kept: Remembered, a: u8, b: u8, d: u8, out: &mut [u8], at: usi
 pub fn is_plain(kept: Remembered) -> bool
     ensures { λ r. ⌜ r ≡ isPlain kept ⌝ }
 {
-    true
+    let mode = kept.mode;
+    match mode {
+        DelMode::Data => true,
+        DelMode::Filler => false,
+    }
 }

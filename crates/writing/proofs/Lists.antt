@@ -18,7 +18,7 @@ use Rattle.refusals.proofs.Cases.{and-left, and-right}
 use Rattle.refusals.proofs.Many.{sets-append, every-split}
 use Rattle.wire.specs.Sending.{sent, isPlain, poured, writtenOf, roomFor, writeAt, afterWrite}
 use Rattle.wire.specs.declared.Written.the-variants.{Next}
-use Rattle.wire.proofs.Writings.{sent-plain}
+use Rattle.wire.proofs.Sendings.{sent-plain}
 use Rattle.characters.specs.Characters.{asBytes, lowBytes}
 use Rattle.characters.proofs.Entries.{all-bytes}
 use Rattle.numbers.specs.Integers.{spell}

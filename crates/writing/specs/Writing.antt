@@ -7,7 +7,6 @@ use lib.ListN.{length}
 use lib.Seq.{sets}
 use lib.IntN.{ℤ, pos, natAbs}
 use Rattle.memory.specs.declared.Remembered.{Remembered}
-use Rattle.memory.specs.Memory.{remember}
 use Rattle.refusals.specs.Answers.{Answer}
 use Rattle.wire.specs.Sending.{sent, writeIf}
 use Rattle.numbers.specs.Integers.{spell}
@@ -15,6 +14,7 @@ use Rattle.points.specs.Writing.{spellPoint}
 use Rattle.parameters.specs.declared.Entry.{Entry}
 use Rattle.parameters.specs.declared.Entry.the-variants.{AnInteger, ACharacter}
 use Rattle.parameters.specs.Shapes.{Tailed, noList, listOf, Value, number, scaled, place, valuesOf, tailOf}
+use Rattle.parameters.specs.Behind.{afterValue, afterValues}
 use Rattle.commands.specs.declared.Command.{Command}
 use Rattle.writable.specs.Writable.{fits, isCommand}
 
@@ -31,19 +31,9 @@ spellValue kept (number e v) = spellEntry e kept v
 spellValue kept (scaled m x) = sent kept (spell m) ++ sent kept (spell x)
 spellValue kept (place p) = sent kept (spellPoint (kept .point) p)
 
--- what is remembered behind a value
-abbrev pub afterValue : Remembered → Value → Remembered
-afterValue kept (number e v) = kept
-afterValue kept (scaled m x) = kept
-afterValue kept (place p) = remember kept p
-
 unfoldable pub spellValues : Remembered → List Value → List ℕ
 spellValues kept [] = []
 spellValues kept (v ∷ vs) = spellValue kept v ++ spellValues (afterValue kept v) vs
-
-unfoldable pub afterValues : Remembered → List Value → Remembered
-afterValues kept [] = kept
-afterValues kept (v ∷ vs) = afterValues (afterValue kept v) vs
 
 unfoldable pub spellTail : Remembered → Tailed → List ℤ → List ℕ
 spellTail kept noList es = []

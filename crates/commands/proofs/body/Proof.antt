@@ -3,9 +3,6 @@ use borrow.Author.Needs.{needs}
 use Rattle.commands.proofs.body.Statement.{statement}
 use Rattle.commands.proofs.body.Tie as tie
 
-add-from : tie.Need-add-from
-add-from c = search needs
-
 look-at-requires : tie.Need-look-at-requires
 look-at-requires c κs = search needs
 
@@ -17,6 +14,9 @@ same-length c = search needs
 
 returns : tie.Need-returns
 returns c = search (needs, bodies)
+
+with-letters-requires : tie.Need-with-letters-requires
+with-letters-requires c κs = search needs
 
 enum-known-e : tie.Need-enum-known-e
 enum-known-e c = search needs
@@ -37,11 +37,11 @@ pub body-spec : {M : Type 1} → statement M
 body-spec =
     tie.close
     (tie.spec
-    add-from
     look-at-requires
     enum-known-taken
     same-length
     returns
+    with-letters-requires
     enum-known-e
     same-length-2
     returns-2

@@ -6,14 +6,11 @@ use Rattle.commands.proofs.head.Tie as tie
 letter-requires : tie.Need-letter-requires
 letter-requires c κs = search needs
 
-enum-known-first : tie.Need-enum-known-first
-enum-known-first c = search needs
+enum-known-byte : tie.Need-enum-known-byte
+enum-known-byte c = search needs
 
 begins-command-requires : tie.Need-begins-command-requires
 begins-command-requires c κs = search needs
-
-add-next : tie.Need-add-next
-add-next c = search needs
 
 second-letter-requires : tie.Need-second-letter-requires
 second-letter-requires c κs = search needs
@@ -35,9 +32,8 @@ head-spec =
     tie.close
     (tie.spec
     letter-requires
-    enum-known-first
+    enum-known-byte
     begins-command-requires
-    add-next
     second-letter-requires
     returns
     enum-known-e

@@ -6,14 +6,14 @@ use Rattle.commands.proofs.read_command.Tie as tie
 returns : tie.Need-returns
 returns c = (search (needs, past-end), search (needs, kept-past))
 
-add-letters : tie.Need-add-letters
-add-letters c = search needs
+add-from : tie.Need-add-from
+add-from c = search needs
 
 head-requires : tie.Need-head-requires
 head-requires c κs = search needs
 
-enum-known-first : tie.Need-enum-known-first
-enum-known-first c = search needs
+enum-known-letters : tie.Need-enum-known-letters
+enum-known-letters c = search needs
 
 body-requires : tie.Need-body-requires
 body-requires c κs = search needs
@@ -35,9 +35,9 @@ read-command-spec =
     tie.close
     (tie.spec
     returns
-    add-letters
+    add-from
     head-requires
-    enum-known-first
+    enum-known-letters
     body-requires
     enum-known-e
     same-length

@@ -6,8 +6,8 @@ use Rattle.commands.proofs.second_letter.Tie as tie
 letter-requires : tie.Need-letter-requires
 letter-requires c κs = search needs
 
-enum-known-second : tie.Need-enum-known-second
-enum-known-second c = search needs
+enum-known-byte : tie.Need-enum-known-byte
+enum-known-byte c = search needs
 
 kind-of-requires : tie.Need-kind-of-requires
 kind-of-requires c κs = search needs
@@ -35,7 +35,7 @@ second-letter-spec =
     tie.close
     (tie.spec
     letter-requires
-    enum-known-second
+    enum-known-byte
     kind-of-requires
     enum-known-kind
     enum-told

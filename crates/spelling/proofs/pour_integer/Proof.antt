@@ -1,4 +1,5 @@
-use Rattle.wire.proofs.Writings.{pours-size, pours-stand, none-size, none-stand, sent-same}
+use Rattle.wire.proofs.Writings.{pours-size, pours-stand, none-size, none-stand}
+use Rattle.wire.proofs.Sendings.{sent-same}
 use Rattle.signs.proofs.Integers.{not-integer, an-integer, under-limit}
 use Rattle.spelling.proofs.Writing.{integer-spelled}
 use borrow.Author.Needs.{needs}

@@ -4,9 +4,6 @@ use borrow.Author.Needs.{needs}
 use Rattle.wire.proofs.pair.Statement.{statement}
 use Rattle.wire.proofs.pair.Tie as tie
 
-add-place : tie.Need-add-place
-add-place c = search needs
-
 returns : tie.Need-returns
 unfolding byteOf pairAt
 returns c = search tests
@@ -26,5 +23,4 @@ unfolding byteOf pairAt
 returns-3 c = search tests
 
 pub pair-spec : {M : Type 1} → statement M
-pair-spec =
-    tie.close (tie.spec add-place returns shared-slice-read-if2 add-next returns-2 returns-3)
+pair-spec = tie.close (tie.spec returns shared-slice-read-if2 add-next returns-2 returns-3)

@@ -1,7 +1,7 @@
-use Rattle.pieces.proofs.Reading.{leads}
+use Rattle.commands.proofs.Modes.{leads}
 use borrow.Author.Needs.{needs}
-use Rattle.pieces.proofs.leading_number.Statement.{statement}
-use Rattle.pieces.proofs.leading_number.Tie as tie
+use Rattle.commands.proofs.leading_number.Statement.{statement}
+use Rattle.commands.proofs.leading_number.Tie as tie
 
 numbers-of-requires : tie.Need-numbers-of-requires
 numbers-of-requires c κs = search needs
