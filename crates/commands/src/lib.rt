@@ -160,7 +160,12 @@ pub fn after_letters(kept: Remembered, first: u8, second: u8, number: i32) -> Re
 }
 
 // The same where the first number is still in the parameters: only KI is asked for it.
-pub fn after_parameters(kept: Remembered, first: u8, second: u8, parameters: Parameters) -> Remembered
+pub fn after_parameters(
+    kept: Remembered,
+    first: u8,
+    second: u8,
+    parameters: Parameters,
+) -> Remembered
     ensures { λ r. ⌜ r ≡ afterLetters kept first second (leading (valuesOf parameters)) ⌝ }
 {
     if is_ignore_deletes(first, second) {

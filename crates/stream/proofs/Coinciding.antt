@@ -5,12 +5,13 @@ use Rattle.refusals.proofs.Coinciding.{named, named-back, coincide}
 use Rattle.commands.specs.Reading.{ToldCommand}
 use Rattle.commands.proofs.Coinciding.{takenFor, taken-for}
 use Rattle.stream.specs.declared.Item.{Item}
-use Rattle.stream.specs.declared.Item.the-variants.{Nothing, Text}
-use Rattle.stream.specs.Items.{Itemed, nothing, text, command, refusedCommand, refusedCall, itemOf}
+use Rattle.stream.specs.declared.Item.the-variants.{Nothing, Text, Del}
+use Rattle.stream.specs.Items.{Itemed, nothing, text, del, command, refusedCommand, refusedCall, itemOf}
 
 item-back : Itemed ToldCommand → Item
 item-back nothing = Nothing
 item-back (text b n) = Text (record { byte = b; next = n })
+item-back (del n) = Del (record { next = n })
 item-back (command t) = Item.Command (takenFor t)
 item-back (refusedCommand e p n k) = Item.RefusedCommand (record { refusal = named e; place = p; next = n; kept = k })
 item-back (refusedCall e p) = Item.Refused (named e) p
@@ -19,6 +20,7 @@ item-same : (i : Item) → item-back (itemOf i) ≡ i
 unfolding itemOf item-back
 item-same Nothing = refl
 item-same (Text t) = refl
+item-same (Del d) = refl
 item-same (Item.Command t) = ap (λ x. Item.Command x) (taken-for t)
 item-same (Item.RefusedCommand r) = ap (λ x. Item.RefusedCommand (record { refusal = x; place = r .place; next = r .next; kept = r .kept })) (named-back (r .refusal))
 item-same (Item.Refused e p) = ap (λ x. Item.Refused x p) (named-back e)

@@ -1,15 +1,15 @@
 -- Reading an item, by what its parts gave.
-use Prim.Native.Nat.{ℕ, suc, _+_, _≤_, _<_}
+use Prim.Native.Nat.{ℕ, _+_, _≤_, _<_}
 use mathlib.Core.Path.{_≡_, refl, sym, _∙_, ap}
-use mathlib.Core.Bool.{Bool, true, false}
-use mathlib.Core.List.{List, [], _∷_}
+use mathlib.Core.Bool.{Bool, true, false, not}
+use mathlib.Core.List.{List}
 use native.Mathlib.Omega.{arith}
-use native.Mathlib.Numerals.{add-one}
 use borrow.Author.Tests.{lt-ltb, le-ltb, eq-eqb, ne-eqb}
 use lib.Dec.{eqb}
-use lib.ListN.{length, getD, drop, drop-of-length-le}
-use lib.Seq.{sets, drop-cons}
+use lib.ListN.{length, getD}
 use lib.IntN.{ℤ}
+use Rattle.memory.specs.declared.DelMode.{DelMode}
+use Rattle.memory.specs.declared.DelMode.the-variants.{Data, Filler}
 use Rattle.memory.specs.declared.Remembered.{Remembered}
 use Rattle.memory.specs.Memory.{inside}
 use Rattle.refusals.specs.declared.Refusal.{Refusal}
@@ -17,45 +17,58 @@ use Rattle.refusals.specs.declared.Refusal.the-variants.{NotValid}
 use Rattle.refusals.specs.Refusals.{numberOf}
 use Rattle.refusals.specs.Answers.{Answer, done, refused}
 use Rattle.refusals.proofs.Cases.{by-pick}
+use Rattle.refusals.proofs.Passing.{Passing, passing-none, passing-more, passing-stop, passing-end}
 use Rattle.commands.specs.declared.TakenCommand.{TakenCommand}
 use Rattle.commands.specs.declared.CommandRead.{CommandRead}
 use Rattle.commands.specs.declared.CommandRead.the-variants.{Whole}
 use Rattle.commands.specs.Reading.{Meaning, ToldCommand, tell, told, commandOf, commandAt, afterEntries}
 use Rattle.stream.specs.declared.Item.{Item}
-use Rattle.stream.specs.declared.Item.the-variants.{Nothing, Text}
-use Rattle.stream.specs.Items.{Itemed, nothing, text, command, refusedCall, passed, passedFrom, asItem, commandItem, itemAt, toldItem, itemOf, afterItem}
+use Rattle.stream.specs.declared.Item.the-variants.{Nothing, Text, Del}
+use Rattle.stream.specs.Items.{Itemed, nothing, command, refusedCall, noEscape, passedFrom, isFiller, byteItem, asItem, commandItem, itemAt, toldItem, itemOf, afterItem}
 
 -- ---- passing over
 
-pub record Passing (s : List ℕ) (at i : ℕ) : Type 0 where
-  pub same : passedFrom s i ≡ passedFrom s at
+module _ (s : List ℕ) (at i : ℕ) (f : Passing noEscape s at i) where
+  pub passes-over : i < length s → (getD s i 0 ≡ 27 → ⊥) → Passing noEscape s at (i + 1)
+  passes-over h e = passing-more noEscape s at i f h (ap not (ne-eqb (getD s i 0) 27 e))
 
-pub passing-none : (s : List ℕ) (at : ℕ) → Passing s at at
-passing-none s at = record { same = refl }
+  pub stops-there : i < length s → getD s i 0 ≡ 27 → i ≡ passedFrom s at
+  unfolding passedFrom
+  stops-there h e = passing-stop noEscape s at i f h (ap not (eq-eqb (getD s i 0) 27 e))
 
-one-on : (s : List ℕ) (i : ℕ) → i < length s → (getD s i 0 ≡ 27 → ⊥) → passedFrom s i ≡ passedFrom s (i + 1)
-unfolding passedFrom
-one-on s i h e =
-    let d : drop i s ≡ getD s i 0 ∷ drop (i + 1) s = drop-cons s i 0 h ∙ rw (add-one i) in
-    let z : i + suc (passed (drop (i + 1) s)) ≡ i + 1 + passed (drop (i + 1) s) = omega arith in
-    rw (d, ne-eqb (getD s i 0) 27 e) z
+  pub stops-at-end : length s ≤ i → i ≡ passedFrom s at
+  unfolding passedFrom
+  stops-at-end h = passing-end noEscape s at i f h
 
-pub passing-more : (s : List ℕ) (at i : ℕ) → Passing s at i → i < length s → (getD s i 0 ≡ 27 → ⊥) → Passing s at (i + 1)
-passing-more s at i f h e = record { same = sym (one-on s i h e) ∙ f .same }
+pub starts : (s : List ℕ) (at : ℕ) → Passing noEscape s at at
+starts s at = passing-none noEscape s at
 
-pub passing-stop : (s : List ℕ) (at i : ℕ) → Passing s at i → i < length s → getD s i 0 ≡ 27 → i ≡ passedFrom s at
-unfolding passedFrom
-passing-stop s at i f h e =
-    let d = drop-cons s i 0 h in
-    let z : i ≡ i + 0 = omega arith in
-    z ∙ sym (rw (d, eq-eqb (getD s i 0) 27 e)) ∙ f .same
+pub ruleset passing = (starts, passes-over, stops-there, stops-at-end)
 
-pub passing-end : (s : List ℕ) (at i : ℕ) → Passing s at i → length s ≤ i → i ≡ passedFrom s at
-unfolding passedFrom
-passing-end s at i f h =
-    let d : drop i s ≡ [] = drop-of-length-le s h in
-    let z : i ≡ i + 0 = omega arith in
-    z ∙ sym (rw d) ∙ f .same
+-- ---- a byte outside commands
+
+module _ (m : DelMode) (b : ℕ) where
+  pub data-fills-not : m ≡ Data → false ≡ isFiller m b
+  unfolding isFiller
+  data-fills-not e = rw e
+
+  pub filler-tested : {t : Bool} → m ≡ Filler → t ≡ eqb b 127 → t ≡ isFiller m b
+  unfolding isFiller
+  filler-tested e j = rw e j
+
+  module _ (n : ℕ) {t : Bool} (et : t ≡ isFiller m b) where
+    pub a-del : t ≡ true → itemOf (Del (record { next = n })) ≡ toldItem (byteItem m b n)
+    unfolding itemOf toldItem
+    a-del g = rw (← et, g)
+
+    pub a-text : t ≡ false → itemOf (Text (record { byte = b; next = n })) ≡ toldItem (byteItem m b n)
+    unfolding itemOf toldItem
+    a-text g = rw (← et, g)
+
+-- such an item leaves the list
+byte-list : (m : DelMode) (b n : ℕ) (l : List ℤ) → l ≡ afterItem (byteItem m b n) l
+unfolding afterItem
+byte-list m b n l = by-pick (λ i. l ≡ afterItem i l) (isFiller m b) _ _ (λ t. refl) (λ t. refl)
 
 -- ---- the item of a command
 
@@ -147,17 +160,15 @@ module _ (kept : Remembered) (s : List ℕ) (start room : ℕ) where
 
       module _ (k : start < length s) where
         module _ (e : getD s start 0 ≡ 27 → ⊥) where
-          plain : itemAt kept s start room ≡ text (getD s start 0) (start + 1)
+          plain : itemAt kept s start room ≡ byteItem (kept .mode) (getD s start 0) (start + 1)
           unfolding itemAt
           plain = rw (le-ltb (length s) start h, ← et, g, lt-ltb start (length s) k, ne-eqb (getD s start 0) 27 e)
 
-          pub text-item : itemOf (Text (record { byte = getD s start 0; next = start + 1 })) ≡ toldItem (itemAt kept s start room)
-          unfolding itemOf toldItem
-          text-item = rw plain
+          pub byte-item : {m : DelMode} {q : Itemed ToldCommand} → m ≡ kept .mode → q ≡ toldItem (byteItem m (getD s start 0) (start + 1)) → q ≡ toldItem (itemAt kept s start room)
+          byte-item em j = rw (plain, ← em) j
 
-          pub text-list : (l : List ℤ) → l ≡ afterItem (itemAt kept s start room) l
-          unfolding afterItem
-          text-list l = rw plain
+          pub byte-kept : (l : List ℤ) → l ≡ afterItem (itemAt kept s start room) l
+          byte-kept l = rw plain (byte-list (kept .mode) (getD s start 0) (start + 1) l)
 
         module _ (e : getD s start 0 ≡ 27) where
           escape : itemAt kept s start room ≡ commandItem kept s start room

@@ -1,9 +1,10 @@
-// The items of a host stream: text, commands and refused commands, one after the other.
+// The items of a host stream: text, DELs, commands and refused commands, one after the other.
 ghost use mathlib.Core.Path.{_≡_};
 ghost use lib.ListN.{length};
-ghost use Rattle.stream.specs.Items.{itemOf, commandItem, itemAt, toldItem, afterItem, passedFrom};
+ghost use Rattle.stream.specs.Items.{itemOf, isFiller, byteItem, commandItem, itemAt, toldItem, afterItem, passedFrom};
 use commands::CommandRead;
 use commands::TakenCommand;
+use memory::DelMode;
 use memory::Remembered;
 use refusals::Refusal;
 
@@ -21,10 +22,16 @@ pub struct RefusedItem {
     pub kept: Remembered,
 }
 
+// A DEL between commands, in the mode after KI 1, and where the next item starts.
+pub struct DelItem {
+    pub next: usize,
+}
+
 pub enum Item {
     // no item is left
     Nothing,
     Text(TextItem),
+    Del(DelItem),
     // a command, with its `parameters::Parameters`
     Command(TakenCommand),
     RefusedCommand(RefusedItem),
@@ -44,6 +51,31 @@ fn next_escape(s: &[u8], at: usize) -> usize
         i = i + 1;
     }
     i
+}
+
+// Whether a byte outside commands is a DEL that makes an item of its own.
+fn is_filler(mode: DelMode, b: u8) -> bool
+    ensures { λ r. ⌜ r ≡ isFiller mode b ⌝ }
+{
+    match mode {
+        DelMode::Data => false,
+        DelMode::Filler => b == 127,
+    }
+}
+
+// A byte outside commands.
+fn byte_item(mode: DelMode, b: u8, next: usize) -> Item
+    ensures { λ r. ⌜ itemOf r ≡ toldItem (byteItem mode b next) ⌝ }
+{
+    if is_filler(mode, b) {
+        let del = DelItem { next: next };
+        return Item::Del(del);
+    }
+    let text = TextItem {
+        byte: b,
+        next: next,
+    };
+    Item::Text(text)
 }
 
 // The item that starts with the ESC at `start`. The list's being too short makes no item.
@@ -85,11 +117,8 @@ pub fn read_item(kept: Remembered, s: &[u8], start: usize, list: &mut [i32]) -> 
             return command_item(kept, s, start, list);
         }
         let next = start + 1;
-        let text = TextItem {
-            byte: b,
-            next: next,
-        };
-        return Item::Text(text);
+        let mode = kept.mode;
+        return byte_item(mode, b, next);
     }
     Item::Refused(Refusal::NotValid, 0)
 }

@@ -1,2 +1,3 @@
 pub mod Pouring
 pub mod Lists
+pub mod Sizes

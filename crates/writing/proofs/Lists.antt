@@ -10,6 +10,7 @@ use lib.Dec.{leb}
 use lib.ListN.{length, getD, take, drop, length-append, length-map, drop-of-length-le}
 use lib.Seq.{sets, sets-eq, take-append-seam, length-take-le, drop-cons, length-sets}
 use lib.IntN.{ℤ, pos, natAbs}
+use Rattle.memory.specs.declared.DelMode.{DelMode}
 use Rattle.memory.specs.declared.Point.{Point}
 use Rattle.memory.specs.declared.Remembered.{Remembered}
 use Rattle.memory.specs.Memory.{inside, remember}
@@ -22,7 +23,7 @@ use Rattle.wire.proofs.Sendings.{sent-plain}
 use Rattle.characters.specs.Characters.{asBytes, lowBytes}
 use Rattle.characters.proofs.Entries.{all-bytes}
 use Rattle.numbers.specs.Integers.{spell}
-use Rattle.numbers.proofs.Shortest.{spell-few}
+use Rattle.numbers.proofs.Shortest.{integer-few}
 use Rattle.parameters.specs.declared.Entry.{Entry}
 use Rattle.parameters.specs.declared.Entry.the-variants.{ACharacter}
 use Rattle.parameters.specs.declared.Parameters.{Parameters}
@@ -31,9 +32,12 @@ use Rattle.parameters.specs.declared.LastPoint.the-variants.{NoPoint, Last}
 use Rattle.parameters.specs.declared.Tail.{Tail}
 use Rattle.parameters.specs.declared.Tail.the-variants.{NoList, ListOf}
 use Rattle.parameters.specs.Shapes.{listOf, Pointed, noPoint, last, tailMeant, pointMeant, Value, number, scaled, place, valuesOf, tailOf, lastFrom, lastPoint}
+use Rattle.parameters.specs.Behind.{afterValues}
 use Rattle.commands.specs.declared.Command.{Command}
+use Rattle.commands.specs.Behind.{leading, afterLetters, afterCommand}
 use Rattle.writable.specs.Writable.{isKind, isEntry, areEntries, areValues, isTail, fits, isCommand}
-use Rattle.writing.specs.Writing.{spellEntry, spellEntries, spellValues, afterValues, spellTail, spellParameters, spellCommand, Poured}
+use Rattle.writing.specs.Writing.{spellEntry, spellEntries, spellValues, spellTail, spellParameters, spellCommand, Poured, mostBytes}
+use Rattle.writing.proofs.Sizes.{bytes-few}
 use Rattle.writing.proofs.Pouring.{poured-both}
 
 -- ---- entries
@@ -41,7 +45,7 @@ use Rattle.writing.proofs.Pouring.{poured-both}
 pub record Entering (e : Entry) (kept : Remembered) (list : List ℤ) (out₀ out : List ℕ) (at i n : ℕ) : Type 0 where
   pub upto : i ≤ length list
   pub ok : areEntries e (drop i list) ≡ true
-  pub few : n ≤ 3 * i
+  pub few : n ≤ 4 * i
   pub long : length out ≡ length out₀
   pub size : n + length (spellEntries e kept (drop i list)) ≡ length (spellEntries e kept list)
   pub whole : sets out (at + n) (spellEntries e kept (drop i list)) ≡ sets out₀ at (spellEntries e kept list)
@@ -69,7 +73,7 @@ module _ (e : Entry) (kept : Remembered) (list : List ℤ) (out₀ out : List �
     parts : spellEntries e kept (drop i list) ≡ spellEntry e kept v ++ spellEntries e kept (drop (i + 1) list)
     parts = ap (spellEntries e kept) cons ∙ spell-cons e kept v (drop (i + 1) list)
 
-    pub entering-more : (x : ℤ) {o : List ℕ} {m : ℕ} → Poured (spellEntry e kept x) 3 out o (at + n) m → x ≡ v → Entering e kept list out₀ o at (i + 1) (n + m)
+    pub entering-more : (x : ℤ) {o : List ℕ} {m : ℕ} → Poured (spellEntry e kept x) 4 out o (at + n) m → x ≡ v → Entering e kept list out₀ o at (i + 1) (n + m)
     entering-more x {o} {m} g j =
         let w = spellEntry e kept v in
         let rest = spellEntries e kept (drop (i + 1) list) in
@@ -88,7 +92,7 @@ module _ (e : Entry) (kept : Remembered) (list : List ℤ) (out₀ out : List �
               ∙ sets-append w rest out (at + n) ∙ ap (λ (y : List ℕ). sets out (at + n) y) (sym parts) ∙ f .whole;
         }
 
-  pub entering-end : length list ≤ i → length list ≤ 256 → Poured (spellEntries e kept list) 768 out₀ out at n
+  pub entering-end : length list ≤ i → length list ≤ 256 → Poured (spellEntries e kept list) 1024 out₀ out at n
   unfolding spellEntries
   entering-end h k =
       let d : drop i list ≡ [] = drop-of-length-le list h in
@@ -108,7 +112,7 @@ characters-spelled kept (v ∷ list) p =
     ap (λ (w : List ℕ). w ++ asBytes list) (sym (sent-plain kept (natAbs v ∷ []) p))
     ∙ ap (λ (w : List ℕ). sent kept (natAbs v ∷ []) ++ w) (characters-spelled kept list p)
 
-pub characters-laid : (kept : Remembered) (list : List ℤ) (l o : List ℕ) (at : ℕ) {t : Bool} → t ≡ isPlain kept → t ≡ true → areEntries ACharacter list ≡ true → length list ≤ 256 → o ≡ sets l at (lowBytes list) → Poured (spellEntries ACharacter kept list) 768 l o at (length list)
+pub characters-laid : (kept : Remembered) (list : List ℤ) (l o : List ℕ) (at : ℕ) {t : Bool} → t ≡ isPlain kept → t ≡ true → areEntries ACharacter list ≡ true → length list ≤ 256 → o ≡ sets l at (lowBytes list) → Poured (spellEntries ACharacter kept list) 1024 l o at (length list)
 characters-laid kept list l o at e h ok few j =
     let s = characters-spelled kept list (sym e ∙ h) in
     let b = all-bytes 32 list ok in
@@ -117,7 +121,7 @@ characters-laid kept list l o at e h ok few j =
 pub all-entries : (e : Entry) (list : List ℤ) {k : Entry} → areEntries e list ≡ true → e ≡ k → areEntries k list ≡ true
 all-entries e list h g = rw g at h
 
-pub all-poured : (e : Entry) (kept : Remembered) (list : List ℤ) (l o : List ℕ) (at r : ℕ) {k : Entry} → e ≡ k → Poured (spellEntries k kept list) 768 l o at r → Poured (spellEntries e kept list) 768 l o at r
+pub all-poured : (e : Entry) (kept : Remembered) (list : List ℤ) (l o : List ℕ) (at r : ℕ) {k : Entry} → e ≡ k → Poured (spellEntries k kept list) 1024 l o at r → Poured (spellEntries e kept list) 1024 l o at r
 all-poured e kept list l o at r g f = rw g f
 
 -- ---- a counted list
@@ -138,19 +142,18 @@ module _ (e : Entry) (kept : Remembered) (list : List ℤ) (h : isTail (listOf e
   unfolding poured
   count-is = rw few-entries
 
-  count-long : length (poured (leb (length list) 256) (sent kept (spell (pos (length list))))) ≤ 3
-  unfolding sent
-  count-long = rw count-is (spell-few (pos (length list)))
+  count-long : length (poured (leb (length list) 256) (sent kept (spell (pos (length list))))) ≤ 4
+  count-long = rw count-is (integer-few kept (pos (length list)) (le-leb (length list) 32767 (omega (arith, list-few))))
 
-  pub count-few : {n : ℕ} → n ≡ length (poured (leb (length list) 256) (sent kept (spell (pos (length list))))) → n ≤ 3
+  pub count-few : {n : ℕ} → n ≡ length (poured (leb (length list) 256) (sent kept (spell (pos (length list))))) → n ≤ 4
   count-few e = rw e count-long
 
-  pub list-poured : (l m o : List ℕ) (at n r : ℕ) → n ≡ length (poured (leb (length list) 256) (sent kept (spell (pos (length list))))) → m ≡ sets l at (poured (leb (length list) 256) (sent kept (spell (pos (length list))))) → Poured (spellEntries e kept list) 768 m o (at + n) r → Poured (spellTail kept (listOf e) list) 771 l o at (n + r)
+  pub list-poured : (l m o : List ℕ) (at n r : ℕ) → n ≡ length (poured (leb (length list) 256) (sent kept (spell (pos (length list))))) → m ≡ sets l at (poured (leb (length list) 256) (sent kept (spell (pos (length list))))) → Poured (spellEntries e kept list) 1024 m o (at + n) r → Poured (spellTail kept (listOf e) list) 1028 l o at (n + r)
   unfolding spellTail
   list-poured l m o at n r en em f =
       let w = sent kept (spell (pos (length list))) in
-      let g : Poured w 3 l m at n = record { size = en ∙ ap length count-is; stand = em ∙ ap (λ (y : List ℕ). sets l at y) count-is; few = count-few en } in
-      poured-both w (spellEntries e kept list) 3 768 771 l m o at n r g f (omega arith)
+      let g : Poured w 4 l m at n = record { size = en ∙ ap length count-is; stand = em ∙ ap (λ (y : List ℕ). sets l at y) count-is; few = count-few en } in
+      poured-both w (spellEntries e kept list) 4 1024 1028 l m o at n r g f (omega arith)
 
 -- ---- the tail of each kind
 
@@ -158,10 +161,10 @@ module _ (ps : Parameters) (es : List ℤ) {u : Tail} (eu : tailMeant u ≡ tail
   pub tail-ok : {e : Entry} → isTail (tailOf ps) es ≡ true → u ≡ ListOf e → isTail (listOf e) es ≡ true
   tail-ok h g = rw (← eu, g) at h
 
-  pub tail-poured : (kept : Remembered) (e : Entry) (l o : List ℕ) (at r : ℕ) → u ≡ ListOf e → Poured (spellTail kept (listOf e) es) 771 l o at r → Poured (spellTail kept (tailOf ps) es) 771 l o at r
+  pub tail-poured : (kept : Remembered) (e : Entry) (l o : List ℕ) (at r : ℕ) → u ≡ ListOf e → Poured (spellTail kept (listOf e) es) 1028 l o at r → Poured (spellTail kept (tailOf ps) es) 1028 l o at r
   tail-poured kept e l o at r g f = rw (← eu, g) f
 
-  pub no-tail : (kept : Remembered) (l : List ℕ) (at : ℕ) → u ≡ NoList → Poured (spellTail kept (tailOf ps) es) 771 l l at 0
+  pub no-tail : (kept : Remembered) (l : List ℕ) (at : ℕ) → u ≡ NoList → Poured (spellTail kept (tailOf ps) es) 1028 l l at 0
   unfolding spellTail
   no-tail kept l at g = rw (← eu, g) (record { size = refl; stand = refl; few = omega arith })
 
@@ -188,6 +191,9 @@ module _ (kept : Remembered) (vs : List Value) {b : LastPoint} (eb : pointMeant 
   unfolding remembered
   kept-before g = sym (after-from kept noPoint vs ∙ rw (← eb, g))
 
+pub command-kept : (kept : Remembered) (c : Command) {k m : Remembered} → k ≡ afterValues kept (valuesOf (c .parameters)) → m ≡ afterLetters k (c .first) (c .second) (leading (valuesOf (c .parameters))) → m ≡ afterCommand kept (c .first) (c .second) (valuesOf (c .parameters))
+command-kept kept c e j = rw (← e) j
+
 -- ---- the whole command
 
 module _ (kept : Remembered) (ps : Parameters) (es : List ℤ) (h : fits kept ps es ≡ true) where
@@ -205,18 +211,22 @@ module _ (kept : Remembered) (ps : Parameters) (es : List ℤ) (h : fits kept ps
   pub command-tail : isTail (tailOf ps) es ≡ true
   command-tail = and-right (areValues (valuesOf ps)) (isTail (tailOf ps) es) rest
 
-pub command-poured : (kept : Remembered) (c : Command) (es : List ℤ) {k : Remembered} (l m o q : List ℕ) (n r : ℕ) → m ≡ sets l 0 (sent kept (27 ∷ c .first ∷ c .second ∷ [])) → Poured (spellValues kept (valuesOf (c .parameters))) 10 m o 3 n → k ≡ afterValues kept (valuesOf (c .parameters)) → Poured (spellTail k (tailOf (c .parameters)) es) 771 o q (3 + n) r → Poured (spellCommand kept c es) 784 l q 0 (3 + n + r)
-unfolding sent spellCommand spellParameters
+-- ESC and the letters, each as it stands
+pub head-stored : (l : List ℕ) (a b : ℕ) {m₁ m₂ o : List ℕ} → m₁ ≡ sets l (0 + 0) (27 ∷ []) → m₂ ≡ sets m₁ (0 + 1) (a ∷ []) → o ≡ sets m₂ (0 + 2) (b ∷ []) → o ≡ sets l 0 (27 ∷ a ∷ b ∷ [])
+head-stored l a b e f g = g ∙ rw (f, e)
+
+pub command-poured : (kept : Remembered) (c : Command) (es : List ℤ) {k : Remembered} (l m o q : List ℕ) (n r : ℕ) → m ≡ sets l 0 (27 ∷ c .first ∷ c .second ∷ []) → Poured (spellValues kept (valuesOf (c .parameters))) 12 m o 3 n → k ≡ afterValues kept (valuesOf (c .parameters)) → Poured (spellTail k (tailOf (c .parameters)) es) 1028 o q (3 + n) r → Poured (spellCommand kept c es) 1043 l q 0 (3 + n + r)
+unfolding spellCommand spellParameters
 command-poured kept c es l m o q n r em f ek g =
     let head : List ℕ = 27 ∷ c .first ∷ c .second ∷ [] in
     let vs = valuesOf (c .parameters) in
     let w = spellValues kept vs in
     let t = spellTail (afterValues kept vs) (tailOf (c .parameters)) es in
     let first : Poured head 3 l m 0 3 = record { size = refl; stand = em; few = omega arith } in
-    let two : Poured (head ++ w) 13 l o 0 (3 + n) = poured-both head w 3 10 13 l m o 0 3 n first f (omega arith) in
+    let two : Poured (head ++ w) 15 l o 0 (3 + n) = poured-both head w 3 12 15 l m o 0 3 n first f (omega arith) in
     let y : 0 + (3 + n) ≡ 3 + n = omega arith in
-    let g′ : Poured t 771 o q (0 + (3 + n)) r = rw (y, ← ek) g in
-    rw (← append-assoc head w t) (poured-both (head ++ w) t 13 771 784 l o q 0 (3 + n) r two g′ (omega arith))
+    let g′ : Poured t 1028 o q (0 + (3 + n)) r = rw (y, ← ek) g in
+    rw (← append-assoc head w t) (poured-both (head ++ w) t 15 1028 1043 l o q 0 (3 + n) r two g′ (omega arith))
 
 -- ---- written, or refused
 
@@ -227,11 +237,12 @@ fitting kept c es e h = and-right (isKind (c .first) (c .second) (c .parameters)
 pub tested : {b t v : Bool} → t ≡ b → t ≡ v → b ≡ v
 tested e h = sym e ∙ h
 
-pub all-written : (w l o : List ℕ) {size : ℕ} (room : ℕ) → Poured w 784 l o 0 size → 784 ≤ room → writtenOf (Next size) ≡ writeAt w room 0
+pub all-written : (kept : Remembered) (c : Command) (es : List ℤ) (l o : List ℕ) {m : DelMode} {size most : ℕ} (room : ℕ) → fits kept (c .parameters) es ≡ true → Poured (spellCommand kept c es) 1043 l o 0 size → m ≡ kept .mode → most ≡ mostBytes m → most ≤ room → writtenOf (Next size) ≡ writeAt (spellCommand kept c es) room 0
 unfolding writeAt roomFor writtenOf
-all-written w l o {size} room f k =
-    let n : 0 + length w ≡ size = omega (arith, f .size) in
-    rw (n, le-leb size room (omega (arith, f .few)))
+all-written kept c es l o {m} {size} {most} room h f em e k =
+    let n : 0 + length (spellCommand kept c es) ≡ size = omega (arith, f .size) in
+    let q : most ≡ mostBytes (kept .mode) = e ∙ ap mostBytes em in
+    rw (n, le-leb size room (omega (arith, k, q, bytes-few kept c es (command-tail kept (c .parameters) es h) f)))
 
 pub stands-written : (w : List ℕ) (l o : List ℕ) (n k r : ℕ) → Poured w k l o 0 r → o ≡ afterWrite (writtenOf (Next n)) w l 0
 unfolding afterWrite writtenOf

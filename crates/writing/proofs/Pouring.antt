@@ -13,9 +13,10 @@ use Rattle.memory.specs.Memory.{inside, remember}
 use Rattle.refusals.proofs.Cases.{and-left, and-right}
 use Rattle.refusals.proofs.Many.{sets-append, every-split}
 use Rattle.wire.specs.Sending.{sent, poured}
+use Rattle.wire.proofs.Feeds.{one-most}
 use Rattle.signs.specs.Signs.{isInteger}
 use Rattle.numbers.specs.Integers.{spell}
-use Rattle.numbers.proofs.Shortest.{spell-few}
+use Rattle.numbers.proofs.Shortest.{integer-few}
 use Rattle.points.specs.Writing.{spellPoint}
 use Rattle.points.proofs.Shortest.{point-few}
 use Rattle.characters.specs.Characters.{isCharacter}
@@ -44,52 +45,48 @@ poured-is : (ok : Bool) (w : List ℕ) → ok ≡ true → poured ok w ≡ w
 unfolding poured
 poured-is ok w e = rw e
 
-sent-long : (kept : Remembered) (w : List ℕ) → length (sent kept w) ≡ length w
-unfolding sent
-sent-long kept w = refl
-
 module _ (kept : Remembered) (e : Entry) (v x : ℤ) (ok : isEntry e v ≡ true) (l : List ℕ) (at : ℕ) {r : ℕ} {o : List ℕ} where
-  pub integer-poured : e ≡ AnInteger → r ≡ length (poured (isInteger x) (sent kept (spell x))) → o ≡ sets l at (poured (isInteger x) (sent kept (spell x))) → x ≡ v → Poured (spellEntry e kept v) 3 l o at r
+  pub integer-poured : e ≡ AnInteger → r ≡ length (poured (isInteger x) (sent kept (spell x))) → o ≡ sets l at (poured (isInteger x) (sent kept (spell x))) → x ≡ v → Poured (spellEntry e kept v) 4 l o at r
   unfolding spellEntry
   integer-poured g er eo i =
       let c : isInteger v ≡ true = rw g at ok in
       let t : isInteger x ≡ true = ap isInteger i ∙ c in
       let q : poured (isInteger x) (sent kept (spell x)) ≡ sent kept (spell v) = poured-is (isInteger x) (sent kept (spell x)) t ∙ ap (λ (y : ℤ). sent kept (spell y)) i in
       let n : r ≡ length (sent kept (spell v)) = er ∙ ap length q in
-      rw g (record { size = n; stand = eo ∙ ap (λ (y : List ℕ). sets l at y) q; few = omega (arith, n, sent-long kept (spell v), spell-few v) })
+      rw g (record { size = n; stand = eo ∙ ap (λ (y : List ℕ). sets l at y) q; few = omega (arith, n, integer-few kept v c) })
 
-  pub character-poured : {b : ℕ} → e ≡ ACharacter → b ≡ natAbs x % 256 → r ≡ length (sent kept (b ∷ [])) → o ≡ sets l at (sent kept (b ∷ [])) → x ≡ v → Poured (spellEntry e kept v) 3 l o at r
+  pub character-poured : {b : ℕ} → e ≡ ACharacter → b ≡ natAbs x % 256 → r ≡ length (sent kept (b ∷ [])) → o ≡ sets l at (sent kept (b ∷ [])) → x ≡ v → Poured (spellEntry e kept v) 4 l o at r
   unfolding spellEntry
   character-poured {b} g eb er eo i =
       let c : isCharacter v ≡ true = rw g at ok in
       let q : b ≡ natAbs v = eb ∙ ap (λ (y : ℤ). natAbs y % 256) i ∙ a-byte 32 v c in
       let n : r ≡ length (sent kept (natAbs v ∷ [])) = er ∙ ap (λ (y : ℕ). length (sent kept (y ∷ []))) q in
-      rw g (record { size = n; stand = eo ∙ ap (λ (y : ℕ). sets l at (sent kept (y ∷ []))) q; few = omega (arith, n, sent-long kept (natAbs v ∷ [])) })
+      rw g (record { size = n; stand = eo ∙ ap (λ (y : ℕ). sets l at (sent kept (y ∷ []))) q; few = omega (arith, n, one-most kept (natAbs v)) })
 
-pub one-point-poured : (kept : Remembered) (p : Point) (l : List ℕ) (at : ℕ) {r : ℕ} {o : List ℕ} → inside (kept .point) ≡ true → inside p ≡ true → r ≡ length (poured (inside (kept .point) && inside p) (sent kept (spellPoint (kept .point) p))) → o ≡ sets l at (poured (inside (kept .point) && inside p) (sent kept (spellPoint (kept .point) p))) → Poured (sent kept (spellPoint (kept .point) p)) 5 l o at r
+pub one-point-poured : (kept : Remembered) (p : Point) (l : List ℕ) (at : ℕ) {r : ℕ} {o : List ℕ} → inside (kept .point) ≡ true → inside p ≡ true → r ≡ length (poured (inside (kept .point) && inside p) (sent kept (spellPoint (kept .point) p))) → o ≡ sets l at (poured (inside (kept .point) && inside p) (sent kept (spellPoint (kept .point) p))) → Poured (sent kept (spellPoint (kept .point) p)) 6 l o at r
 one-point-poured kept p l at {r} a b er eo =
     let w = sent kept (spellPoint (kept .point) p) in
     let t : inside (kept .point) && inside p ≡ true = rw (a, b) in
     let q : poured (inside (kept .point) && inside p) w ≡ w = poured-is (inside (kept .point) && inside p) w t in
     let n : r ≡ length w = er ∙ ap length q in
-    record { size = n; stand = eo ∙ ap (λ (y : List ℕ). sets l at y) q; few = omega (arith, n, sent-long kept (spellPoint (kept .point) p), point-few (kept .point) p) }
+    record { size = n; stand = eo ∙ ap (λ (y : List ℕ). sets l at y) q; few = omega (arith, n, point-few kept (kept .point) p b) }
 
 pub inside-after : (kept : Remembered) (p : Point) {k : Remembered} → k ≡ remember kept p → inside p ≡ true → inside (k .point) ≡ true
 inside-after kept p e h = rw e h
 
 -- two pieces, as the code pours them; a signed argument comes back as the machine reads it
 module _ (e : Entry) (kept : Remembered) (a b x y : ℤ) (l m o : List ℕ) (at n r : ℕ) where
-  pub two-entries-poured : Poured (spellEntry e kept x) 3 l m at n → x ≡ a → Poured (spellEntry e kept y) 3 m o (at + n) r → y ≡ b → Poured (spellEntry e kept a ++ spellEntry e kept b) 6 l o at (n + r)
-  two-entries-poured f i g j = rw (← i, ← j) (poured-both (spellEntry e kept x) (spellEntry e kept y) 3 3 6 l m o at n r f g (omega arith))
+  pub two-entries-poured : Poured (spellEntry e kept x) 4 l m at n → x ≡ a → Poured (spellEntry e kept y) 4 m o (at + n) r → y ≡ b → Poured (spellEntry e kept a ++ spellEntry e kept b) 8 l o at (n + r)
+  two-entries-poured f i g j = rw (← i, ← j) (poured-both (spellEntry e kept x) (spellEntry e kept y) 4 4 8 l m o at n r f g (omega arith))
 
 module _ (kept : Remembered) (a b d x y z : ℤ) (l m o : List ℕ) (at n r : ℕ) where
-  pub three-integers-poured : Poured (spellEntry AnInteger kept x ++ spellEntry AnInteger kept y) 6 l m at n → x ≡ a → y ≡ b → Poured (spellEntry AnInteger kept z) 3 m o (at + n) r → z ≡ d → Poured (spellEntry AnInteger kept a ++ spellEntry AnInteger kept b ++ spellEntry AnInteger kept d) 10 l o at (n + r)
+  pub three-integers-poured : Poured (spellEntry AnInteger kept x ++ spellEntry AnInteger kept y) 8 l m at n → x ≡ a → y ≡ b → Poured (spellEntry AnInteger kept z) 4 m o (at + n) r → z ≡ d → Poured (spellEntry AnInteger kept a ++ spellEntry AnInteger kept b ++ spellEntry AnInteger kept d) 12 l o at (n + r)
   three-integers-poured f i j g k =
-      rw (← i, ← j, ← k) (poured-both (spellEntry AnInteger kept x ++ spellEntry AnInteger kept y) (spellEntry AnInteger kept z) 6 3 10 l m o at n r f g (omega arith))
+      rw (← i, ← j, ← k) (poured-both (spellEntry AnInteger kept x ++ spellEntry AnInteger kept y) (spellEntry AnInteger kept z) 8 4 12 l m o at n r f g (omega arith))
 
-pub two-points-poured : (kept : Remembered) (p q : Point) {k : Remembered} (l m o : List ℕ) (at n r : ℕ) → Poured (sent kept (spellPoint (kept .point) p)) 5 l m at n → k ≡ remember kept p → Poured (sent k (spellPoint (k .point) q)) 5 m o (at + n) r → Poured (sent kept (spellPoint (kept .point) p) ++ sent (remember kept p) (spellPoint p q)) 10 l o at (n + r)
+pub two-points-poured : (kept : Remembered) (p q : Point) {k : Remembered} (l m o : List ℕ) (at n r : ℕ) → Poured (sent kept (spellPoint (kept .point) p)) 6 l m at n → k ≡ remember kept p → Poured (sent k (spellPoint (k .point) q)) 6 m o (at + n) r → Poured (sent kept (spellPoint (kept .point) p) ++ sent (remember kept p) (spellPoint p q)) 12 l o at (n + r)
 two-points-poured kept p q l m o at n r f e g =
-    poured-both (sent kept (spellPoint (kept .point) p)) (sent (remember kept p) (spellPoint p q)) 5 5 10 l m o at n r f (rw e at g) (omega arith)
+    poured-both (sent kept (spellPoint (kept .point) p)) (sent (remember kept p) (spellPoint p q)) 6 6 12 l m o at n r f (rw e at g) (omega arith)
 
 -- ---- the values of each kind
 
@@ -150,51 +147,51 @@ module _ (ps : Parameters) (h : areValues (valuesOf ps) ≡ true) where
 
 -- the bytes of the values of each kind
 module _ (kept : Remembered) (ps : Parameters) (l o : List ℕ) (at r : ℕ) where
-  widened : (w : List ℕ) (k : ℕ) → k ≤ 10 → Poured w k l o at r → Poured w 10 l o at r
+  widened : (w : List ℕ) (k : ℕ) → k ≤ 12 → Poured w k l o at r → Poured w 12 l o at r
   widened w k h f = record { size = f .size; stand = f .stand; few = omega (arith, f .few) }
 
-  pub one-integer-values : (x : ℤ) {v : ℤ} → ps ≡ OneInteger v → x ≡ v → Poured (spellEntry AnInteger kept x) 3 l o at r → Poured (spellValues kept (valuesOf ps)) 10 l o at r
+  pub one-integer-values : (x : ℤ) {v : ℤ} → ps ≡ OneInteger v → x ≡ v → Poured (spellEntry AnInteger kept x) 4 l o at r → Poured (spellValues kept (valuesOf ps)) 12 l o at r
   unfolding spellValues
-  one-integer-values x {v} g i f = rw (g, append-nil (spellEntry AnInteger kept v), ← i) (widened _ 3 (omega arith) f)
+  one-integer-values x {v} g i f = rw (g, append-nil (spellEntry AnInteger kept v), ← i) (widened _ 4 (omega arith) f)
 
-  pub integer-then-string-values : (x : ℤ) {v : ℤ} → ps ≡ IntegerThenString v → x ≡ v → Poured (spellEntry AnInteger kept x) 3 l o at r → Poured (spellValues kept (valuesOf ps)) 10 l o at r
+  pub integer-then-string-values : (x : ℤ) {v : ℤ} → ps ≡ IntegerThenString v → x ≡ v → Poured (spellEntry AnInteger kept x) 4 l o at r → Poured (spellValues kept (valuesOf ps)) 12 l o at r
   unfolding spellValues
-  integer-then-string-values x {v} g i f = rw (g, append-nil (spellEntry AnInteger kept v), ← i) (widened _ 3 (omega arith) f)
+  integer-then-string-values x {v} g i f = rw (g, append-nil (spellEntry AnInteger kept v), ← i) (widened _ 4 (omega arith) f)
 
-  pub integer-then-array-values : (x : ℤ) {v : ℤ} → ps ≡ IntegerThenArray v → x ≡ v → Poured (spellEntry AnInteger kept x) 3 l o at r → Poured (spellValues kept (valuesOf ps)) 10 l o at r
+  pub integer-then-array-values : (x : ℤ) {v : ℤ} → ps ≡ IntegerThenArray v → x ≡ v → Poured (spellEntry AnInteger kept x) 4 l o at r → Poured (spellValues kept (valuesOf ps)) 12 l o at r
   unfolding spellValues
-  integer-then-array-values x {v} g i f = rw (g, append-nil (spellEntry AnInteger kept v), ← i) (widened _ 3 (omega arith) f)
+  integer-then-array-values x {v} g i f = rw (g, append-nil (spellEntry AnInteger kept v), ← i) (widened _ 4 (omega arith) f)
 
-  pub two-integers-values : (x y : ℤ) {v w : ℤ} → ps ≡ TwoIntegers v w → x ≡ v → y ≡ w → Poured (spellEntry AnInteger kept x ++ spellEntry AnInteger kept y) 6 l o at r → Poured (spellValues kept (valuesOf ps)) 10 l o at r
+  pub two-integers-values : (x y : ℤ) {v w : ℤ} → ps ≡ TwoIntegers v w → x ≡ v → y ≡ w → Poured (spellEntry AnInteger kept x ++ spellEntry AnInteger kept y) 8 l o at r → Poured (spellValues kept (valuesOf ps)) 12 l o at r
   unfolding spellValues
-  two-integers-values x y {v} {w} g i j f = rw (g, append-nil (spellEntry AnInteger kept w), ← i, ← j) (widened _ 6 (omega arith) f)
+  two-integers-values x y {v} {w} g i j f = rw (g, append-nil (spellEntry AnInteger kept w), ← i, ← j) (widened _ 8 (omega arith) f)
 
-  pub two-characters-values : (x y : ℤ) {v w : ℤ} → ps ≡ TwoCharacters v w → x ≡ v → y ≡ w → Poured (spellEntry ACharacter kept x ++ spellEntry ACharacter kept y) 6 l o at r → Poured (spellValues kept (valuesOf ps)) 10 l o at r
+  pub two-characters-values : (x y : ℤ) {v w : ℤ} → ps ≡ TwoCharacters v w → x ≡ v → y ≡ w → Poured (spellEntry ACharacter kept x ++ spellEntry ACharacter kept y) 8 l o at r → Poured (spellValues kept (valuesOf ps)) 12 l o at r
   unfolding spellValues
-  two-characters-values x y {v} {w} g i j f = rw (g, append-nil (spellEntry ACharacter kept w), ← i, ← j) (widened _ 6 (omega arith) f)
+  two-characters-values x y {v} {w} g i j f = rw (g, append-nil (spellEntry ACharacter kept w), ← i, ← j) (widened _ 8 (omega arith) f)
 
-  pub real-values : (x y : ℤ) {v : Real} → ps ≡ AReal v → x ≡ v .mantissa → y ≡ v .exponent → Poured (spellEntry AnInteger kept x ++ spellEntry AnInteger kept y) 6 l o at r → Poured (spellValues kept (valuesOf ps)) 10 l o at r
+  pub real-values : (x y : ℤ) {v : Real} → ps ≡ AReal v → x ≡ v .mantissa → y ≡ v .exponent → Poured (spellEntry AnInteger kept x ++ spellEntry AnInteger kept y) 8 l o at r → Poured (spellValues kept (valuesOf ps)) 12 l o at r
   unfolding spellValues spellEntry
   real-values x y {v} g i j f =
-      rw (g, append-nil (sent kept (spell (v .mantissa)) ++ sent kept (spell (v .exponent))), ← i, ← j) (widened _ 6 (omega arith) f)
+      rw (g, append-nil (sent kept (spell (v .mantissa)) ++ sent kept (spell (v .exponent))), ← i, ← j) (widened _ 8 (omega arith) f)
 
-  pub three-integers-values : (x y z : ℤ) {u v w : ℤ} → ps ≡ ThreeIntegers u v w → x ≡ u → y ≡ v → z ≡ w → Poured (spellEntry AnInteger kept x ++ spellEntry AnInteger kept y ++ spellEntry AnInteger kept z) 10 l o at r → Poured (spellValues kept (valuesOf ps)) 10 l o at r
+  pub three-integers-values : (x y z : ℤ) {u v w : ℤ} → ps ≡ ThreeIntegers u v w → x ≡ u → y ≡ v → z ≡ w → Poured (spellEntry AnInteger kept x ++ spellEntry AnInteger kept y ++ spellEntry AnInteger kept z) 12 l o at r → Poured (spellValues kept (valuesOf ps)) 12 l o at r
   unfolding spellValues
   three-integers-values x y z {u} {v} {w} g i j k f =
       rw (g, append-nil (spellEntry AnInteger kept w), ← append-assoc (spellEntry AnInteger kept u) (spellEntry AnInteger kept v) (spellEntry AnInteger kept w), ← i, ← j, ← k) f
 
-  pub one-point-values : {p : Point} → ps ≡ OnePoint p → Poured (sent kept (spellPoint (kept .point) p)) 5 l o at r → Poured (spellValues kept (valuesOf ps)) 10 l o at r
+  pub one-point-values : {p : Point} → ps ≡ OnePoint p → Poured (sent kept (spellPoint (kept .point) p)) 6 l o at r → Poured (spellValues kept (valuesOf ps)) 12 l o at r
   unfolding spellValues
-  one-point-values {p} g f = rw (g, append-nil (sent kept (spellPoint (kept .point) p))) (widened _ 5 (omega arith) f)
+  one-point-values {p} g f = rw (g, append-nil (sent kept (spellPoint (kept .point) p))) (widened _ 6 (omega arith) f)
 
-  pub two-points-values : {p q : Point} → ps ≡ TwoPoints p q → Poured (sent kept (spellPoint (kept .point) p) ++ sent (remember kept p) (spellPoint p q)) 10 l o at r → Poured (spellValues kept (valuesOf ps)) 10 l o at r
+  pub two-points-values : {p q : Point} → ps ≡ TwoPoints p q → Poured (sent kept (spellPoint (kept .point) p) ++ sent (remember kept p) (spellPoint p q)) 12 l o at r → Poured (spellValues kept (valuesOf ps)) 12 l o at r
   unfolding spellValues
   two-points-values {p} {q} g f = rw (g, append-nil (sent (remember kept p) (spellPoint p q))) f
 
-pub string-none : (kept : Remembered) (ps : Parameters) (l : List ℕ) (at : ℕ) → ps ≡ AString → Poured (spellValues kept (valuesOf ps)) 10 l l at 0
+pub string-none : (kept : Remembered) (ps : Parameters) (l : List ℕ) (at : ℕ) → ps ≡ AString → Poured (spellValues kept (valuesOf ps)) 12 l l at 0
 unfolding spellValues
 string-none kept ps l at g = rw g (record { size = refl; stand = refl; few = omega arith })
 
-pub array-none : (kept : Remembered) (ps : Parameters) (l : List ℕ) (at : ℕ) → ps ≡ AnArray → Poured (spellValues kept (valuesOf ps)) 10 l l at 0
+pub array-none : (kept : Remembered) (ps : Parameters) (l : List ℕ) (at : ℕ) → ps ≡ AnArray → Poured (spellValues kept (valuesOf ps)) 12 l l at 0
 unfolding spellValues
 array-none kept ps l at g = rw g (record { size = refl; stand = refl; few = omega arith })

@@ -6,6 +6,8 @@ use mathlib.Core.List.{List, [], _∷_, _++_}
 use lib.ListN.{length}
 use lib.Seq.{sets}
 use lib.IntN.{ℤ, pos, natAbs}
+use Rattle.memory.specs.declared.DelMode.{DelMode}
+use Rattle.memory.specs.declared.DelMode.the-variants.{Data, Filler}
 use Rattle.memory.specs.declared.Remembered.{Remembered}
 use Rattle.refusals.specs.Answers.{Answer}
 use Rattle.wire.specs.Sending.{sent, writeIf}
@@ -52,6 +54,11 @@ writeFitting kept c es room = writeIf (fits kept (c .parameters) es) (spellComma
 
 abbrev pub writeCommand : Remembered → Command → List ℤ → ℕ → Answer ℕ
 writeCommand kept c es room = writeIf (isCommand kept c es) (spellCommand kept c es) room 0
+
+-- no command has more bytes: where a 127 is data an entry has at most three, and where it is filler four
+unfoldable pub mostBytes : DelMode → ℕ
+mostBytes Data = 792
+mostBytes Filler = 1043
 
 -- the bytes w, at most most of them, stand in l from at on as far as it has room, and r says how many they are
 pub record Poured (w : List ℕ) (most : ℕ) (l o : List ℕ) (at r : ℕ) : Type 0 where

@@ -1,16 +1,20 @@
 // Writing a command in its shortest spelling. Pouring stores bytes as far as there is room and says how many they are.
 ghost use mathlib.Core.Path.{_≡_};
 ghost use mathlib.Core.Bool.{true};
-ghost use mathlib.Core.List.{_++_};
+ghost use mathlib.Core.List.{[], _∷_, _++_};
 ghost use Prim.Native.Nat.{_≤_, _+_};
 ghost use lib.ListN.{length};
+ghost use lib.Seq.{sets};
 ghost use Rattle.memory.specs.Memory.{inside, remember};
 ghost use Rattle.wire.specs.Sending.{sent, writtenOf, writeAt, afterWrite};
 ghost use Rattle.points.specs.Writing.{spellPoint};
 ghost use Rattle.parameters.specs.Shapes.{listOf, valuesOf, tailOf};
+ghost use Rattle.parameters.specs.Behind.{afterValues};
+ghost use Rattle.commands.specs.Behind.{afterCommand};
 ghost use Rattle.writable.specs.Writable.{isEntry, areEntries, areValues, isTail, fits};
-ghost use Rattle.writing.specs.Writing.{spellEntry, spellEntries, spellValues, afterValues, spellTail, spellCommand, writeFitting, writeCommand, Poured};
+ghost use Rattle.writing.specs.Writing.{spellEntry, spellEntries, spellValues, spellTail, spellCommand, writeFitting, writeCommand, mostBytes, Poured};
 use commands::Command;
+use memory::DelMode;
 use memory::Point;
 use memory::Remembered;
 use parameters::Entry;
@@ -20,12 +24,12 @@ use parameters::Tail;
 use refusals::Refusal;
 use wire::Written;
 
-// No command has more bytes: ESC and two letters, fixed parameters of at most 10, a count of at most 3, and 256 entries of at most 3 each.
-const MOST_BYTES: usize = 784;
+// No command has more bytes: ESC and two letters, fixed parameters of at most 12, a count of at most 4, and 256 entries of at most 4 each.
+const MOST_BYTES: usize = 1043;
 
 fn pour_entry(kept: Remembered, entry: Entry, v: i32, out: &mut [u8], at: usize) -> usize
     requires { ⌜ isEntry entry v ≡ true ⌝ }
-    ensures { λ r. ⌜ Poured (spellEntry entry kept v) 3 (now (out .entry)) (now (out .exit)) at r ⌝ }
+    ensures { λ r. ⌜ Poured (spellEntry entry kept v) 4 (now (out .entry)) (now (out .exit)) at r ⌝ }
 {
     match entry {
         Entry::AnInteger => spelling::pour_integer(kept, v, out, at),
@@ -45,7 +49,7 @@ fn pour_two_entries(
     at: usize,
 ) -> usize
     requires { ⌜ ((isEntry entry a ≡ true) × (isEntry entry b ≡ true)) × (at ≤ 64) ⌝ }
-    ensures { λ r. ⌜ Poured (spellEntry entry kept a ++ spellEntry entry kept b) 6 (now (out .entry)) (now (out .exit)) at r ⌝ }
+    ensures { λ r. ⌜ Poured (spellEntry entry kept a ++ spellEntry entry kept b) 8 (now (out .entry)) (now (out .exit)) at r ⌝ }
 {
     let n = pour_entry(kept, entry, a, out, at);
     let next = at + n;
@@ -55,7 +59,7 @@ fn pour_two_entries(
 
 fn pour_three_integers(kept: Remembered, a: i32, b: i32, d: i32, out: &mut [u8], at: usize) -> usize
     requires { ⌜ ((isEntry Entry.AnInteger a ≡ true) × ((isEntry Entry.AnInteger b ≡ true) × (isEntry Entry.AnInteger d ≡ true))) × (at ≤ 48) ⌝ }
-    ensures { λ r. ⌜ Poured (spellEntry Entry.AnInteger kept a ++ spellEntry Entry.AnInteger kept b ++ spellEntry Entry.AnInteger kept d) 10 (now (out .entry)) (now (out .exit)) at r ⌝ }
+    ensures { λ r. ⌜ Poured (spellEntry Entry.AnInteger kept a ++ spellEntry Entry.AnInteger kept b ++ spellEntry Entry.AnInteger kept d) 12 (now (out .entry)) (now (out .exit)) at r ⌝ }
 {
     let n = pour_two_entries(kept, Entry::AnInteger, a, b, out, at);
     let next = at + n;
@@ -65,14 +69,14 @@ fn pour_three_integers(kept: Remembered, a: i32, b: i32, d: i32, out: &mut [u8],
 
 fn pour_one_point(kept: Remembered, p: Point, out: &mut [u8], at: usize) -> usize
     requires { ⌜ (inside (kept .point) ≡ true) × (inside p ≡ true) ⌝ }
-    ensures { λ r. ⌜ Poured (sent kept (spellPoint (kept .point) p)) 5 (now (out .entry)) (now (out .exit)) at r ⌝ }
+    ensures { λ r. ⌜ Poured (sent kept (spellPoint (kept .point) p)) 6 (now (out .entry)) (now (out .exit)) at r ⌝ }
 {
     points::pour_point(kept, p, out, at)
 }
 
 fn pour_two_points(kept: Remembered, p: Point, q: Point, out: &mut [u8], at: usize) -> usize
     requires { ⌜ ((inside (kept .point) ≡ true) × ((inside p ≡ true) × (inside q ≡ true))) × (at ≤ 48) ⌝ }
-    ensures { λ r. ⌜ Poured (sent kept (spellPoint (kept .point) p) ++ sent (remember kept p) (spellPoint p q)) 10 (now (out .entry)) (now (out .exit)) at r ⌝ }
+    ensures { λ r. ⌜ Poured (sent kept (spellPoint (kept .point) p) ++ sent (remember kept p) (spellPoint p q)) 12 (now (out .entry)) (now (out .exit)) at r ⌝ }
 {
     let n = pour_one_point(kept, p, out, at);
     let next = at + n;
@@ -82,7 +86,7 @@ fn pour_two_points(kept: Remembered, p: Point, q: Point, out: &mut [u8], at: usi
 
 fn pour_values(kept: Remembered, parameters: Parameters, out: &mut [u8], at: usize) -> usize
     requires { ⌜ ((inside (kept .point) ≡ true) × (areValues (valuesOf parameters) ≡ true)) × (at ≤ 48) ⌝ }
-    ensures { λ r. ⌜ Poured (spellValues kept (valuesOf parameters)) 10 (now (out .entry)) (now (out .exit)) at r ⌝ }
+    ensures { λ r. ⌜ Poured (spellValues kept (valuesOf parameters)) 12 (now (out .entry)) (now (out .exit)) at r ⌝ }
 {
     match parameters {
         Parameters::OneInteger(a) => pour_entry(kept, Entry::AnInteger, a, out, at),
@@ -105,7 +109,7 @@ fn pour_values(kept: Remembered, parameters: Parameters, out: &mut [u8], at: usi
 
 fn pour_entries(kept: Remembered, entry: Entry, list: &[i32], out: &mut [u8], at: usize) -> usize
     requires { ⌜ ((areEntries entry (now list) ≡ true) × (length (now list) ≤ 256)) × (at ≤ 64) ⌝ }
-    ensures { λ r. ⌜ Poured (spellEntries entry kept (now (list .entry))) 768 (now (out .entry)) (now (out .exit)) at r ⌝ }
+    ensures { λ r. ⌜ Poured (spellEntries entry kept (now (list .entry))) 1024 (now (out .entry)) (now (out .exit)) at r ⌝ }
 {
     let mut i = 0;
     let mut n = 0;
@@ -119,10 +123,10 @@ fn pour_entries(kept: Remembered, entry: Entry, list: &[i32], out: &mut [u8], at
     n
 }
 
-// Where each byte is sent as itself, as all are today, the characters are laid all at once.
+// Where each byte is sent as itself the characters are laid all at once.
 fn pour_characters(kept: Remembered, list: &[i32], out: &mut [u8], at: usize) -> usize
     requires { ⌜ ((areEntries Entry.ACharacter (now list) ≡ true) × (length (now list) ≤ 256)) × (at ≤ 64) ⌝ }
-    ensures { λ r. ⌜ Poured (spellEntries Entry.ACharacter kept (now (list .entry))) 768 (now (out .entry)) (now (out .exit)) at r ⌝ }
+    ensures { λ r. ⌜ Poured (spellEntries Entry.ACharacter kept (now (list .entry))) 1024 (now (out .entry)) (now (out .exit)) at r ⌝ }
 {
     if wire::is_plain(kept) {
         characters::copy(list, out, at);
@@ -133,7 +137,7 @@ fn pour_characters(kept: Remembered, list: &[i32], out: &mut [u8], at: usize) ->
 
 fn pour_all(kept: Remembered, entry: Entry, list: &[i32], out: &mut [u8], at: usize) -> usize
     requires { ⌜ ((areEntries entry (now list) ≡ true) × (length (now list) ≤ 256)) × (at ≤ 64) ⌝ }
-    ensures { λ r. ⌜ Poured (spellEntries entry kept (now (list .entry))) 768 (now (out .entry)) (now (out .exit)) at r ⌝ }
+    ensures { λ r. ⌜ Poured (spellEntries entry kept (now (list .entry))) 1024 (now (out .entry)) (now (out .exit)) at r ⌝ }
 {
     match entry {
         Entry::AnInteger => pour_entries(kept, entry, list, out, at),
@@ -143,7 +147,7 @@ fn pour_all(kept: Remembered, entry: Entry, list: &[i32], out: &mut [u8], at: us
 
 fn pour_list(kept: Remembered, entry: Entry, list: &[i32], out: &mut [u8], at: usize) -> usize
     requires { ⌜ (isTail (listOf entry) (now list) ≡ true) × (at ≤ 58) ⌝ }
-    ensures { λ r. ⌜ Poured (spellTail kept (listOf entry) (now (list .entry))) 771 (now (out .entry)) (now (out .exit)) at r ⌝ }
+    ensures { λ r. ⌜ Poured (spellTail kept (listOf entry) (now (list .entry))) 1028 (now (out .entry)) (now (out .exit)) at r ⌝ }
 {
     let n = spelling::pour_count(kept, list.len(), out, at);
     let next = at + n;
@@ -159,7 +163,7 @@ fn pour_tail(
     at: usize,
 ) -> usize
     requires { ⌜ (isTail (tailOf parameters) (now list) ≡ true) × (at ≤ 58) ⌝ }
-    ensures { λ r. ⌜ Poured (spellTail kept (tailOf parameters) (now (list .entry))) 771 (now (out .entry)) (now (out .exit)) at r ⌝ }
+    ensures { λ r. ⌜ Poured (spellTail kept (tailOf parameters) (now (list .entry))) 1028 (now (out .entry)) (now (out .exit)) at r ⌝ }
 {
     match parameters::tail_of(parameters) {
         Tail::NoList => 0,
@@ -167,8 +171,8 @@ fn pour_tail(
     }
 }
 
-// What is remembered behind a command with these parameters.
-pub fn remembered_after(kept: Remembered, parameters: Parameters) -> Remembered
+// What is remembered behind the values of a command.
+fn values_left(kept: Remembered, parameters: Parameters) -> Remembered
     ensures { λ r. ⌜ r ≡ afterValues kept (valuesOf parameters) ⌝ }
 {
     match parameters::last_point(parameters) {
@@ -177,23 +181,45 @@ pub fn remembered_after(kept: Remembered, parameters: Parameters) -> Remembered
     }
 }
 
+// What is remembered behind a command.
+pub fn remembered_after(kept: Remembered, command: Command) -> Remembered
+    ensures { λ r. ⌜ r ≡ afterCommand kept (command .first) (command .second) (valuesOf (command .parameters)) ⌝ }
+{
+    let parameters = command.parameters;
+    let left = values_left(kept, parameters);
+    commands::after_parameters(left, command.first, command.second, parameters)
+}
+
+// ESC and two letters, each as it stands: no letter is ever sent as a pair.
+fn store_head(first: u8, second: u8, out: &mut [u8])
+    ensures { λ _. ⌜ now (out .exit) ≡ sets (now (out .entry)) 0 (27 ∷ first ∷ second ∷ []) ⌝ }
+{
+    wire::store_behind(0, 27, out, 0);
+    wire::store_behind(1, first, out, 0);
+    wire::store_behind(2, second, out, 0);
+}
+
 // All bytes of a command that may be written.
 fn pour_command(kept: Remembered, command: Command, list: &[i32], out: &mut [u8]) -> usize
     requires { ⌜ fits kept (command .parameters) (now list) ≡ true ⌝ }
-    ensures { λ r. ⌜ Poured (spellCommand kept command (now (list .entry))) 784 (now (out .entry)) (now (out .exit)) 0 r ⌝ }
+    ensures { λ r. ⌜ Poured (spellCommand kept command (now (list .entry))) 1043 (now (out .entry)) (now (out .exit)) 0 r ⌝ }
 {
     let parameters = command.parameters;
-    wire::pour_three(kept, 27, command.first, command.second, out, 0);
+    store_head(command.first, command.second, out);
     let n = pour_values(kept, parameters, out, 3);
     let next = 3 + n;
-    let m = pour_tail(
-        remembered_after(kept, parameters),
-        parameters,
-        list,
-        out,
-        next,
-    );
+    let m = pour_tail(values_left(kept, parameters), parameters, list, out, next);
     next + m
+}
+
+// What a command may need, by the mode: less where a 127 is data, so that there a shorter output is poured into at once.
+fn most_bytes(mode: DelMode) -> usize
+    ensures { λ r. ⌜ r ≡ mostBytes mode ⌝ }
+{
+    match mode {
+        DelMode::Data => 792,
+        DelMode::Filler => MOST_BYTES,
+    }
 }
 
 // A command that may be written, from the front of `out` on, or 7.
@@ -201,7 +227,8 @@ fn send(kept: Remembered, command: Command, list: &[i32], out: &mut [u8]) -> Wri
     requires { ⌜ fits kept (command .parameters) (now list) ≡ true ⌝ }
     ensures { λ r. ⌜ (writtenOf r ≡ writeAt (spellCommand kept command (now (list .entry))) (length (now (out .entry))) 0) × (now (out .exit) ≡ afterWrite (writtenOf r) (spellCommand kept command (now (list .entry))) (now (out .entry)) 0) ⌝ }
 {
-    if out.len() >= MOST_BYTES {
+    let mode = kept.mode;
+    if out.len() >= most_bytes(mode) {
         let size = pour_command(kept, command, list, out);
         return Written::Next(size);
     }

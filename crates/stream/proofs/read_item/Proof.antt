@@ -1,4 +1,4 @@
-use Rattle.stream.proofs.Reading.{past-item, past-list, outside-item, outside-list, end-item, end-list, text-item, text-list, escape-item, escape-list}
+use Rattle.stream.proofs.Reading.{past-item, past-list, outside-item, outside-list, end-item, end-list, byte-item, byte-kept, escape-item, escape-list}
 use borrow.Author.Needs.{needs}
 use Rattle.stream.proofs.read_item.Statement.{statement}
 use Rattle.stream.proofs.read_item.Tie as tie
@@ -27,8 +27,11 @@ returns-3 c = search (needs, escape-item, escape-list)
 add-next : tie.Need-add-next
 add-next c = search needs
 
+byte-item-requires : tie.Need-byte-item-requires
+byte-item-requires c κs = search needs
+
 returns-4 : tie.Need-returns-4
-returns-4 c = search (needs, text-item, text-list)
+returns-4 c = search (needs, byte-item, byte-kept)
 
 returns-5 : tie.Need-returns-5
 returns-5 c = search (needs, outside-item, outside-list)
@@ -45,5 +48,6 @@ read-item-spec =
     same-length
     returns-3
     add-next
+    byte-item-requires
     returns-4
     returns-5)

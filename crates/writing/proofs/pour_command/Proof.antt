@@ -4,8 +4,8 @@ use borrow.Author.Needs.{needs}
 use Rattle.writing.proofs.pour_command.Statement.{statement}
 use Rattle.writing.proofs.pour_command.Tie as tie
 
-pour-three-requires : tie.Need-pour-three-requires
-pour-three-requires c κs = search needs
+store-head-requires : tie.Need-store-head-requires
+store-head-requires c κs = search needs
 
 pour-values-requires : tie.Need-pour-values-requires
 pour-values-requires c κs = ((search (needs, command-inside), search (needs, command-values)), omega arith)
@@ -13,8 +13,8 @@ pour-values-requires c κs = ((search (needs, command-inside), search (needs, co
 add-next : tie.Need-add-next
 add-next c = search needs
 
-remembered-after-requires : tie.Need-remembered-after-requires
-remembered-after-requires c κs = search needs
+values-left-requires : tie.Need-values-left-requires
+values-left-requires c κs = search needs
 
 pour-tail-requires : tie.Need-pour-tail-requires
 pour-tail-requires c κs = search (needs, command-tail)
@@ -32,10 +32,10 @@ pub pour-command-spec : {M : Type 1} → statement M
 pour-command-spec =
     tie.close
     (tie.spec
-    pour-three-requires
+    store-head-requires
     pour-values-requires
     add-next
-    remembered-after-requires
+    values-left-requires
     pour-tail-requires
     add-result
     same-length

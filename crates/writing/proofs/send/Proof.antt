@@ -4,6 +4,9 @@ use borrow.Author.Needs.{needs}
 use Rattle.writing.proofs.send.Statement.{statement}
 use Rattle.writing.proofs.send.Tie as tie
 
+most-bytes-requires : tie.Need-most-bytes-requires
+most-bytes-requires c κs = search needs
+
 pour-command-requires : tie.Need-pour-command-requires
 pour-command-requires c κs = search needs
 
@@ -38,6 +41,7 @@ pub send-spec : {M : Type 1} → statement M
 send-spec =
     tie.close
     (tie.spec
+    most-bytes-requires
     pour-command-requires
     same-length
     returns
