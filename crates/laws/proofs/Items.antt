@@ -19,7 +19,7 @@ use Rattle.commands.specs.declared.Command.{Command}
 use Rattle.commands.specs.Reading.{Meaning, commandAt}
 use Rattle.writable.specs.Writable.{isCommand}
 use Rattle.writing.specs.Writing.{spellCommand, writeCommand}
-use Rattle.stream.specs.Items.{Itemed, nothing, text, command, refusedCommand, refusedCall, asItem, commandItem, itemAt}
+use Rattle.stream.specs.Items.{Itemed, nothing, text, del, command, refusedCommand, refusedCall, isFiller, asItem, commandItem, itemAt}
 use Rattle.laws.specs.Laws.{carried, Back, SaysSo, NoShorter, given}
 use Rattle.laws.proofs.RoundTrip.{command-round}
 use Rattle.laws.proofs.Shortest.{read-writable, command-shortest}
@@ -52,7 +52,7 @@ given-spelled kept c es out {n} e =
     let h = wrote kept c es (length out) e in
     ap (λ (l : List ℕ). take n l) (sets-eq w out 0 (omega (arith, h .fits))) ∙ take-at w (drop (0 + length w) out) n (sym (h .long))
 
--- "A writable command, written and read again from the same remembered point, comes back with the same remembered point after it": what `write_command`
+-- "A writable command, written and read again from the same remembered point, comes back with the same remembered point after it", and the same mode: what `write_command`
 -- gives, anywhere among other bytes, is the item `Command` of `read_item`
 pub item-back : (kept : Remembered) (c : Command) (es : List ℤ) (out before after : List ℕ) (room : ℕ) {n : ℕ} → writeCommand kept c es (length out) ≡ done n → length (carried (tailOf (c .parameters)) es) ≤ room
     → Back kept c es n (before ++ (given kept c es out n ++ after)) (length before) room
@@ -66,6 +66,7 @@ item-back kept c es out before after room {n} e h =
 unfoldable CameSo : Remembered → List ℕ → (start room : ℕ) → Itemed Meaning → Type 0
 CameSo kept s start room nothing = Unit {0}
 CameSo kept s start room (text b n) = Unit {0}
+CameSo kept s start room (del n) = Unit {0}
 CameSo kept s start room (command m) = (inside (kept .point) ≡ true) × (commandAt kept s start room ≡ done m)
 CameSo kept s start room (refusedCommand e p n k) = Unit {0}
 CameSo kept s start room (refusedCall e p) = Unit {0}
@@ -86,7 +87,8 @@ module _ (kept : Remembered) (s : List ℕ) (start room : ℕ) where
       (λ t. tt)
       (λ t. by-pick P (inside (kept .point)) _ _
       (λ j. by-pick P (ltb start (length s)) _ _
-      (λ u. by-pick P (eqb (getD s start 0) 27) _ _ (λ v. answer-came j (commandAt kept s start room) refl) (λ v. tt))
+      (λ u. by-pick P (eqb (getD s start 0) 27) _ _ (λ v. answer-came j (commandAt kept s start room) refl)
+      (λ v. by-pick P (isFiller (kept .mode) (getD s start 0)) _ _ (λ w. tt) (λ w. tt)))
       (λ u. tt))
       (λ j. tt))
 
@@ -95,7 +97,7 @@ module _ (kept : Remembered) (s : List ℕ) (start room : ℕ) where
     unfolding CameSo
     came = subst P e item-came
 
-    -- what is read may be written from the same point
+    -- what is read may be written from the same point and mode
     pub item-writable : isCommand kept c (m .entries) ≡ true
     item-writable = read-writable kept s start room c (came .0) (came .1) q
 

@@ -3,42 +3,38 @@
 use Prim.Native.Nat.{ℕ, zero, suc, _+_, _≤_, _<_}
 use mathlib.Core.Path.{_≡_, refl, sym, _∙_, ap, subst}
 use mathlib.Core.Bool.{Bool, true, false}
-use mathlib.Core.List.{List, [], _∷_}
+use mathlib.Core.List.{List}
 use mathlib.Core.Logic.{_⊎_, inl, inr, ⊎-elim}
 use native.Mathlib.Omega.{arith}
 use borrow.Author.Tests.{lt-ltb, le-ltb, ltb-true, ltb-false, eqb-true, eqb-false, eq-eqb}
 use lib.Dec.{ltb, eqb}
-use lib.ListN.{length, getD, drop, length-drop}
+use lib.ListN.{length, getD}
 use Rattle.memory.specs.declared.Remembered.{Remembered}
 use Rattle.memory.specs.Memory.{inside}
 use Rattle.refusals.specs.Answers.{Answer, done, refused, pick}
 use Rattle.refusals.proofs.Cases.{by-pick}
+use Rattle.refusals.proofs.Passing.{past-on, past-within}
 use Rattle.commands.specs.Reading.{Meaning, commandAt}
 use Rattle.ranges.specs.Ranges.{mostEntries}
 use Rattle.laws.specs.Laws.{Onward, Parted, BySeven, ByNothing}
 use Rattle.laws.proofs.Shortest.{command-shown}
-use Rattle.laws.proofs.Places.{command-refused, after-inside}
+use Rattle.laws.proofs.Places.{command-refused, command-inside}
 use Rattle.laws.proofs.Room.{Known, command-known}
-use Rattle.stream.specs.Items.{Itemed, nothing, text, command, refusedCommand, refusedCall, passed, passedFrom, asItem, commandItem, itemAt}
+use Rattle.stream.specs.Items.{Itemed, nothing, text, del, command, refusedCommand, refusedCall, noEscape, passedFrom, isFiller, asItem, commandItem, itemAt}
 
 -- where the item that starts at start ends, what it is refused with, and that the point it hands on is inside; what makes no item is 7, and the
 -- room is less than the longest list
 unfoldable pub Ends : List ℕ → (room : ℕ) → Remembered → ℕ → Itemed Meaning → Type 0
 Ends s room kept start nothing = ⊥
 Ends s room kept start (text b n) = (n ≡ start + 1) × (n ≤ length s)
+Ends s room kept start (del n) = (n ≡ start + 1) × (n ≤ length s)
 Ends s room kept start (command m) = ((start < m .next) × (m .next ≤ length s)) × (inside (m .kept .point) ≡ true)
 Ends s room kept start (refusedCommand e p n k) = (((1 ≤ e) × (e ≤ 6)) × ((start < p) × ((p ≤ n) × (n ≤ length s)))) × (k ≡ kept)
 Ends s room kept start (refusedCall e p) = (e ≡ 7) × (room < mostEntries)
 
-passed-most : (l : List ℕ) → passed l ≤ length l
-passed-most [] = omega arith
-passed-most (b ∷ bs) =
-    let h = passed-most bs in
-    by-pick (λ (n : ℕ). n ≤ suc (length bs)) (eqb b 27) 0 (suc (passed bs)) (λ t. omega arith) (λ t. omega arith)
-
 passed-within : (s : List ℕ) (p : ℕ) → p ≤ length s → (p ≤ passedFrom s p) × (passedFrom s p ≤ length s)
 unfolding passedFrom
-passed-within s p h = let q = passed-most (drop p s) in (omega arith, omega (arith, q, length-drop p s))
+passed-within s p h = (past-on noEscape s p, past-within noEscape s p h)
 
 module _ (kept : Remembered) (s : List ℕ) (start room : ℕ) (j : inside (kept .point) ≡ true) (h : start < length s) where
   abbrev P : Itemed Meaning → Type 0
@@ -60,7 +56,7 @@ module _ (kept : Remembered) (s : List ℕ) (start room : ℕ) (j : inside (kept
   unfolding Ends
   answer-ends (done m) e =
       let f = command-shown kept s start room e in
-      ((f .forward, f .within), ap (λ (k : Remembered). inside (k .point)) (f .kept-is) ∙ after-inside kept (m .values) j (f .values-ok))
+      ((f .forward, f .within), ap (λ (k : Remembered). inside (k .point)) (f .kept-is) ∙ command-inside kept (m .first) (m .second) (m .values) j (f .values-ok))
   answer-ends (refused e p) q = refused-ends e p q (subst (Known room) q (command-known kept s start room j))
 
   -- reading moves forward and stays within
@@ -70,7 +66,7 @@ module _ (kept : Remembered) (s : List ℕ) (start room : ℕ) (j : inside (kept
       rw (le-ltb (length s) start (omega arith), j, lt-ltb start (length s) h)
       (by-pick P (eqb (getD s start 0) 27) _ _
       (λ t. answer-ends (commandAt kept s start room) refl)
-      (λ t. (refl, omega arith)))
+      (λ t. by-pick P (isFiller (kept .mode) (getD s start 0)) _ _ (λ u. (refl, omega arith)) (λ u. (refl, omega arith))))
 
 none-left : (kept : Remembered) (s : List ℕ) (start room : ℕ) → inside (kept .point) ≡ true → start ≡ length s → itemAt kept s start room ≡ nothing
 unfolding itemAt
@@ -81,6 +77,7 @@ module _ (held : ℕ → Type 0) (s : List ℕ) (room : ℕ) (holds : room < mos
   unfolding Onward Ends
   onward k kept start j h rest nothing e = absurd e
   onward k kept start j h rest (text b n) e = (e, rest kept n j (omega (arith, e .0, h)) (e .1))
+  onward k kept start j h rest (del n) e = (e, rest kept n j (omega (arith, e .0, h)) (e .1))
   onward k kept start j h rest (command m) e = (e .0, rest (m .kept) (m .next) (e .1) (omega (arith, e .0 .0, h)) (e .0 .1))
   onward k kept start j h rest (refusedCommand x p n m) e =
       let w = e .0 .1 in
@@ -122,6 +119,7 @@ always-read kept s start room j h l {e} {p} g =
     Left : Itemed Meaning → Type 0
     Left nothing = Unit {0}
     Left (text b n) = ⊥
+    Left (del n) = ⊥
     Left (command m) = ⊥
     Left (refusedCommand e p n k) = ⊥
     Left (refusedCall e p) = ⊥

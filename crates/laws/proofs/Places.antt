@@ -9,14 +9,14 @@ use borrow.Author.Tests.{ltb-true, ltb-false}
 use lib.Dec.{ltb, leb, eqb}
 use lib.ListN.{length, getD}
 use lib.IntN.{ℤ, natAbs}
+use Rattle.memory.specs.declared.DelMode.{DelMode}
 use Rattle.memory.specs.declared.Point.{Point}
 use Rattle.memory.specs.declared.Remembered.{Remembered}
 use Rattle.memory.specs.Memory.{inside}
 use Rattle.refusals.specs.Answers.{Answer, done, refused, Read, then, pick, endsAfter, every}
 use Rattle.refusals.proofs.Cases.{by-pick, done-of, and-left, and-right, Ranged, ranged-done, ranged-refused, farther, ranged-then, ranged-to}
-use Rattle.wire.specs.Taking.{byteAt}
-use Rattle.wire.specs.Taking.{pairAt}
-use Rattle.wire.proofs.Feeds.{Took, took}
+use Rattle.wire.specs.Taking.{pastDels, pairAt, foundAt, byteAt}
+use Rattle.wire.proofs.Feeds.{dels-on, dels-within, Took, took}
 use Rattle.signs.specs.Signs.{isNegative}
 use Rattle.signs.specs.Signs.{mostMagnitude}
 use Rattle.numbers.specs.Integers.{integerFrom, integerAt, inRange}
@@ -30,28 +30,31 @@ use Rattle.parameters.specs.Entries.{entryAt, asEntry, CountedRun, runAt}
 use Rattle.parameters.specs.Shapes.{Tailed, noList, listOf, Part, single, real, point, Value, shapeOf}
 use Rattle.parameters.specs.Looking.{TwoEntries, twoEntriesAt, Fixed, partAt, fixedAt, tailAt, Parsed, parametersAt}
 use Rattle.points.specs.Reading.{byKind, notAllowed, endsAt, loX, lastAt, afterLoY, afterUpper, afterHiY, pointFrom, pointAt}
-use Rattle.commands.specs.Reading.{letterAt, Letters, completed, secondAt, headAt, Meaning, bodyAt, commandAt}
+use Rattle.commands.specs.Reading.{letterHere, letterAt, Letters, completed, secondAt, headAt, Meaning, bodyAt, commandAt}
 use Rattle.writable.specs.Writable.{isValue, areValues}
-use Rattle.writing.specs.Writing.{afterValue, afterValues}
+use Rattle.parameters.specs.Behind.{afterValue, afterValues}
+use Rattle.commands.specs.Behind.{leading, isIgnoreDeletes, afterLetters, afterCommand}
 use Rattle.laws.proofs.RoundTrip.{still-inside}
-use Rattle.laws.proofs.Shortest.{FixedShown, part-good, HeadShown, head-good, letter-good}
+use Rattle.laws.proofs.Shortest.{FixedShown, part-good, LetterShown, letter-shown, HeadShown, head-good}
 
 -- where reading goes on
 abbrev onward : {A : Type 0} → Read A → ℕ
 onward r = r .next
 
 module _ (kept : Remembered) (s : List ℕ) where
-  -- a byte that is taken lies behind at, one that is refused at it or at the end
-  byte-ranged : (at : ℕ) → at ≤ length s → Ranged onward at (length s) (byteAt kept s at)
-  unfolding byteAt pairAt
-  byte-ranged at h =
+  -- a byte that is taken lies behind at, one that is refused at it or farther
+  found-ranged : (at : ℕ) → at ≤ length s → Ranged onward at (length s) (foundAt (kept .mode) s at)
+  unfolding foundAt pairAt
+  found-ranged at h =
       by-pick P (ltb at (length s)) _ _
       (λ t.
       let i : at < length s = ltb-true at (length s) t in
+      let pl = pastDels (kept .mode) s (at + 1) in
+      let on : at + 1 ≤ pl = dels-on (kept .mode) s (at + 1) in
       by-pick P (eqb (getD s at 0) 27) _ _
-      (λ u. by-pick P (ltb (at + 1) (length s)) _ _
-      (λ v. let j : at + 1 < length s = ltb-true (at + 1) (length s) v in
-      by-pick P (eqb (getD s (at + 1) 0) 63) _ _
+      (λ u. by-pick P (ltb pl (length s)) _ _
+      (λ v. let j : pl < length s = ltb-true pl (length s) v in
+      by-pick P (eqb (getD s pl 0) 63) _ _
       (λ w. ranged-done onward at (length s) _ (omega arith) (omega arith))
       (λ w. ranged-refused onward at (length s) 6 at (omega arith) h))
       (λ v. ranged-refused onward at (length s) 1 (length s) h (omega arith)))
@@ -64,6 +67,11 @@ module _ (kept : Remembered) (s : List ℕ) where
     where
       P : Answer (Read ℕ) → Type 0
       P = Ranged onward at (length s)
+
+  byte-ranged : (at : ℕ) → at ≤ length s → Ranged onward at (length s) (byteAt kept s at)
+  unfolding byteAt
+  byte-ranged at h =
+      farther onward at (pastDels (kept .mode) s at) (length s) _ (dels-on (kept .mode) s at) (found-ranged (pastDels (kept .mode) s at) (dels-within (kept .mode) s at h))
 
   -- ---- numbers
 
@@ -242,6 +250,14 @@ after-inside kept [] i h = i
 after-inside kept (v ∷ vs) i h =
     after-inside (afterValue kept v) vs (still-inside kept v i (and-left (isValue v) (areValues vs) h)) (and-right (isValue v) (areValues vs) h)
 
+-- the letters move no point
+letters-inside : (kept : Remembered) (a b : ℕ) (v : ℤ) → inside (kept .point) ≡ true → inside (afterLetters kept a b v .point) ≡ true
+unfolding afterLetters
+letters-inside kept a b v i = by-pick (λ (k : Remembered). inside (k .point) ≡ true) (isIgnoreDeletes a b) _ _ (λ t. i) (λ t. i)
+
+pub command-inside : (kept : Remembered) (a b : ℕ) (vs : List Value) → inside (kept .point) ≡ true → areValues vs ≡ true → inside (afterCommand kept a b vs .point) ≡ true
+command-inside kept a b vs i h = letters-inside (afterValues kept vs) a b (leading vs) (after-inside kept vs i h)
+
 fixed-ranged : (kept : Remembered) (ps : List Part) (s : List ℕ) (at : ℕ) → inside (kept .point) ≡ true → at ≤ length s → Ranged (λ (f : Fixed). f .next) at (length s) (fixedAt kept ps s at)
 unfolding fixedAt
 fixed-ranged kept [] s at j i = ranged-done (λ (f : Fixed). f .next) at (length s) _ (omega arith) i
@@ -274,39 +290,48 @@ unfolding Ranged Refuses
 refuses-then f s start (done x) k h next = next x refl
 refuses-then f s start (refused e p) k h next = inr h
 
-letter-ranged : (s : List ℕ) (at : ℕ) → at ≤ length s → Ranged (λ (b : ℕ). at) at (length s) (letterAt s at)
-unfolding letterAt
-letter-ranged s at i =
-    by-pick (Ranged (λ (b : ℕ). at) at (length s)) (ltb at (length s)) _ _
-    (λ t. by-pick (Ranged (λ (b : ℕ). at) at (length s)) (eqb (getD s at 0) 27) _ _
-    (λ u. ranged-refused (λ (b : ℕ). at) at (length s) 6 at (omega arith) i)
-    (λ u. ranged-done (λ (b : ℕ). at) at (length s) _ (omega arith) i))
-    (λ t. ranged-refused (λ (b : ℕ). at) at (length s) 1 (length s) i (omega arith))
+here-ranged : (s : List ℕ) (at : ℕ) → at ≤ length s → Ranged onward at (length s) (letterHere s at)
+unfolding letterHere
+here-ranged s at i =
+    by-pick (Ranged onward at (length s)) (ltb at (length s)) _ _
+    (λ t. let l = ltb-true at (length s) t in
+    by-pick (Ranged onward at (length s)) (eqb (getD s at 0) 27) _ _
+    (λ u. ranged-refused onward at (length s) 6 at (omega arith) i)
+    (λ u. ranged-done onward at (length s) _ (omega arith) (omega (arith, l))))
+    (λ t. ranged-refused onward at (length s) 1 (length s) i (omega arith))
 
-completed-ranged : (s : List ℕ) (at p a b : ℕ) (f : Tabled) → at ≤ p → p ≤ length s → Ranged (λ (h : Letters). p) at (length s) (completed a b p f)
-completed-ranged s at p a b (inTable k) h g = ranged-done (λ (h : Letters). p) at (length s) _ h g
-completed-ranged s at p a b notInTable h g = ranged-refused (λ (h : Letters). p) at (length s) 2 p h g
+letter-ranged : (m : DelMode) (s : List ℕ) (at : ℕ) → at ≤ length s → Ranged onward at (length s) (letterAt m s at)
+letter-ranged m s at i =
+    farther onward at (pastDels m s at) (length s) _ (dels-on m s at) (here-ranged s (pastDels m s at) (dels-within m s at i))
 
-head-ranged : (s : List ℕ) (at : ℕ) → at ≤ length s → Ranged (λ (h : Letters). at + 1) at (length s) (headAt s at)
+abbrev lettersNext : Letters → ℕ
+lettersNext h = h .next
+
+completed-ranged : (s : List ℕ) (at a : ℕ) (b : Read ℕ) (f : Tabled) → at ≤ b .place → b .place < b .next → b .next ≤ length s → Ranged lettersNext at (length s) (completed a b f)
+completed-ranged s at a b (inTable k) h g w = ranged-done lettersNext at (length s) _ (omega arith) w
+completed-ranged s at a b notInTable h g w = ranged-refused lettersNext at (length s) 2 (b .place) h (omega arith)
+
+head-ranged : (m : DelMode) (s : List ℕ) (at : ℕ) → at ≤ length s → Ranged lettersNext at (length s) (headAt m s at)
 unfolding headAt secondAt
-head-ranged s at i =
-    ranged-then (λ (b : ℕ). at) (λ (h : Letters). at + 1) at (length s) (letterAt s at) _ (letter-ranged s at i)
+head-ranged m s at i =
+    ranged-then onward lettersNext at (length s) (letterAt m s at) _ (letter-ranged m s at i)
     (λ a e x w.
-    let l : at < length s = done-of (λ (b : ℕ). at < length s) (letter-good s at) e in
-    by-pick (Ranged (λ (h : Letters). at + 1) at (length s)) (begins a) _ _
-    (λ t. ranged-then (λ (b : ℕ). at + 1) (λ (h : Letters). at + 1) at (length s) (letterAt s (at + 1)) _ (farther (λ (b : ℕ). at + 1) at (at + 1) (length s) (letterAt s (at + 1)) (omega arith) (letter-ranged s (at + 1) (omega arith)))
-    (λ b q y z. completed-ranged s at (at + 1) a b (kindOf a b) (omega arith) (omega arith)))
-    (λ t. ranged-refused (λ (h : Letters). at + 1) at (length s) 2 at (omega arith) i))
+    let l = letter-shown m s at e in
+    by-pick (Ranged lettersNext at (length s)) (begins (a .value)) _ _
+    (λ t. farther lettersNext at (a .next) (length s) _ x
+    (ranged-then onward lettersNext (a .next) (length s) (letterAt m s (a .next)) _ (letter-ranged m s (a .next) w)
+    (λ b q y z. let k = letter-shown m s (a .next) q in completed-ranged s (a .next) (a .value) b (kindOf (a .value) (b .value)) (k .from) (k .behind-it) (k .within))))
+    (λ t. ranged-refused lettersNext at (length s) 2 (a .place) (l .from) (omega (arith, l .behind-it, l .within))))
 
 command-refuses : (kept : Remembered) (s : List ℕ) (start room : ℕ) → inside (kept .point) ≡ true → start < length s → Refuses s start (commandAt kept s start room)
 unfolding commandAt bodyAt Refuses
 command-refuses kept s start room j h =
     by-pick (Refuses s start) (ltb start (length s)) _ _
-    (λ t. refuses-then (λ (l : Letters). start + 1 + 1) s start (headAt s (start + 1)) _ (head-ranged s (start + 1) (omega arith))
+    (λ t. refuses-then lettersNext s start (headAt (kept .mode) s (start + 1)) _ (head-ranged (kept .mode) s (start + 1) (omega arith))
     (λ l e.
-    let a = done-of (HeadShown s (start + 1)) (head-good s (start + 1)) e in
-    refuses-then (λ (p : Parsed). p .next) s start (parametersAt kept (shapeOf (l .kind)) s (start + 3)) _
-    (farther (λ (p : Parsed). p .next) (start + 1) (start + 3) (length s) _ (omega arith) (parameters-ranged kept (l .kind) s (start + 3) j (omega (arith, a .room))))
+    let a = done-of (HeadShown s (start + 1)) (head-good (kept .mode) s (start + 1)) e in
+    refuses-then (λ (p : Parsed). p .next) s start (parametersAt kept (shapeOf (l .kind)) s (l .next)) _
+    (farther (λ (p : Parsed). p .next) (start + 1) (l .next) (length s) _ (omega (arith, a .two)) (parameters-ranged kept (l .kind) s (l .next) j (a .room)))
     (λ p q. by-pick (Refuses s start) (leb (p .count) room) _ _ (λ u. tt) (λ u. inl refl))))
     (λ t. inr (omega arith, omega arith))
 

@@ -9,13 +9,13 @@ use borrow.Author.Tests.{leb-true, leb-false}
 use lib.Dec.{ltb, leb, eqb}
 use lib.ListN.{length, getD}
 use lib.IntN.{ℤ, natAbs}
+use Rattle.memory.specs.declared.DelMode.{DelMode}
 use Rattle.memory.specs.declared.Point.{Point}
 use Rattle.memory.specs.declared.Remembered.{Remembered}
 use Rattle.memory.specs.Memory.{inside}
 use Rattle.refusals.specs.Answers.{Answer, done, refused, Read, then, pick, endsAfter}
 use Rattle.refusals.proofs.Cases.{by-pick, done-of, and-left, and-right}
-use Rattle.wire.specs.Taking.{byteAt}
-use Rattle.wire.specs.Taking.{pairAt}
+use Rattle.wire.specs.Taking.{pastDels, pairAt, foundAt, byteAt}
 use Rattle.signs.specs.Signs.{isNegative}
 use Rattle.signs.specs.Signs.{mostMagnitude}
 use Rattle.numbers.specs.Integers.{integerFrom, integerAt, inRange}
@@ -30,7 +30,7 @@ use Rattle.parameters.specs.declared.Entry.the-variants.{AnInteger, ACharacter}
 use Rattle.parameters.specs.Entries.{entryAt, asEntry, CountedRun, runAt}
 use Rattle.parameters.specs.Shapes.{Tailed, noList, listOf, Part, single, real, point, Shape, shapeOf}
 use Rattle.parameters.specs.Looking.{twoEntriesAt, Fixed, partAt, fixedAt, tailAt, Parsed, parametersAt}
-use Rattle.commands.specs.Reading.{letterAt, Letters, completed, secondAt, headAt, Meaning, bodyAt, commandAt}
+use Rattle.commands.specs.Reading.{letterHere, letterAt, Letters, completed, secondAt, headAt, Meaning, bodyAt, commandAt}
 use Rattle.laws.proofs.Shortest.{FixedShown, part-good}
 use Rattle.laws.proofs.Places.{after-inside}
 
@@ -57,19 +57,24 @@ unfolding Early
 low P e p h = (leb-true 1 e (and-left (leb 1 e) (leb e 6) h), leb-true e 6 (and-right (leb 1 e) (leb e 6) h))
 
 module _ (kept : Remembered) (s : List ℕ) where
-  byte-early : (at : ℕ) → Early Any (byteAt kept s at)
-  unfolding byteAt pairAt
-  byte-early at =
+  found-early : (at : ℕ) → Early Any (foundAt (kept .mode) s at)
+  unfolding foundAt pairAt
+  found-early at =
+      let pl = pastDels (kept .mode) s (at + 1) in
       by-pick P (ltb at (length s)) _ _
       (λ t. by-pick P (eqb (getD s at 0) 27) _ _
-      (λ u. by-pick P (ltb (at + 1) (length s)) _ _
-      (λ v. by-pick P (eqb (getD s (at + 1) 0) 63) _ _ (λ w. early Any _ tt) (λ w. low Any 6 _ refl))
+      (λ u. by-pick P (ltb pl (length s)) _ _
+      (λ v. by-pick P (eqb (getD s pl 0) 63) _ _ (λ w. early Any _ tt) (λ w. low Any 6 _ refl))
       (λ v. low Any 1 _ refl))
       (λ u. by-pick P (ltb (getD s at 0) 32) _ _ (λ v. low Any 3 _ refl) (λ v. by-pick P (ltb 127 (getD s at 0)) _ _ (λ w. low Any 3 _ refl) (λ w. early Any _ tt))))
       (λ t. low Any 1 _ refl)
     where
       P : Answer (Read ℕ) → Type 0
       P = Early Any
+
+  byte-early : (at : ℕ) → Early Any (byteAt kept s at)
+  unfolding byteAt
+  byte-early at = found-early (pastDels (kept .mode) s at)
 
   in-range : (m : ℕ) (t : Bool) (p n : ℕ) → Early Any (inRange m t p n)
   in-range m t p n = by-pick (Early Any) (leb m (mostMagnitude t)) _ _ (λ u. early Any _ tt) (λ u. low Any 4 p refl)
@@ -182,24 +187,25 @@ parameters-early kept shape s at j =
     early-then Any FewParsed (fixedAt kept (shape .fixed) s at) _ (fixed-early kept (shape .fixed) s at j)
     (λ f e x. early-then (FewHeld (f .kept) s) FewParsed (tailAt (f .kept) (shape .tail) s (f .next)) _ (tail-early (f .kept) s (shape .tail) (f .next)) (λ h q y. early FewParsed _ y))
 
-letter-early : (s : List ℕ) (at : ℕ) → Early Any (letterAt s at)
-unfolding letterAt
-letter-early s at =
-    by-pick (Early Any) (ltb at (length s)) _ _
-    (λ t. by-pick (Early Any) (eqb (getD s at 0) 27) _ _ (λ u. low Any 6 _ refl) (λ u. early Any _ tt))
+letter-early : (m : DelMode) (s : List ℕ) (at : ℕ) → Early Any (letterAt m s at)
+unfolding letterHere
+letter-early m s at =
+    let p = pastDels m s at in
+    by-pick (Early Any) (ltb p (length s)) _ _
+    (λ t. by-pick (Early Any) (eqb (getD s p 0) 27) _ _ (λ u. low Any 6 _ refl) (λ u. early Any _ tt))
     (λ t. low Any 1 _ refl)
 
-completed-early : (a b p : ℕ) (f : Tabled) → Early Any (completed a b p f)
-completed-early a b p (inTable k) = early Any _ tt
-completed-early a b p notInTable = low Any 2 p refl
+completed-early : (a : ℕ) (b : Read ℕ) (f : Tabled) → Early Any (completed a b f)
+completed-early a b (inTable k) = early Any _ tt
+completed-early a b notInTable = low Any 2 (b .place) refl
 
-head-early : (s : List ℕ) (at : ℕ) → Early Any (headAt s at)
+head-early : (m : DelMode) (s : List ℕ) (at : ℕ) → Early Any (headAt m s at)
 unfolding headAt secondAt
-head-early s at =
-    early-then Any Any (letterAt s at) _ (letter-early s at)
-    (λ a e x. by-pick (Early Any) (begins a) _ _
-    (λ t. early-then Any Any (letterAt s (at + 1)) _ (letter-early s (at + 1)) (λ b q y. completed-early a b (at + 1) (kindOf a b)))
-    (λ t. low Any 2 at refl))
+head-early m s at =
+    early-then Any Any (letterAt m s at) _ (letter-early m s at)
+    (λ a e x. by-pick (Early Any) (begins (a .value)) _ _
+    (λ t. early-then Any Any (letterAt m s (a .next)) _ (letter-early m s (a .next)) (λ b q y. completed-early (a .value) b (kindOf (a .value) (b .value))))
+    (λ t. low Any 2 (a .place) refl))
 
 -- a refusal has a number of 1 to 6, or it is 7 and the room is less than the longest list
 unfoldable pub Known : ℕ → Answer Meaning → Type 0
@@ -216,7 +222,7 @@ module _ (kept : Remembered) (s : List ℕ) (start room : ℕ) (j : inside (kept
   unfolding commandAt bodyAt Known
   command-known =
       by-pick (Known room) (ltb start (length s)) _ _
-      (λ t. known-then room Any (headAt s (start + 1)) _ (head-early s (start + 1))
-      (λ l x. known-then room FewParsed (parametersAt kept (shapeOf (l .kind)) s (start + 3)) _ (parameters-early kept (shapeOf (l .kind)) s (start + 3) j)
+      (λ t. known-then room Any (headAt (kept .mode) s (start + 1)) _ (head-early (kept .mode) s (start + 1))
+      (λ l x. known-then room FewParsed (parametersAt kept (shapeOf (l .kind)) s (l .next)) _ (parameters-early kept (shapeOf (l .kind)) s (l .next) j)
       (λ p few. by-pick (Known room) (leb (p .count) room) _ _ (λ u. tt) (λ u. let n = leb-false (p .count) room u in inr (refl, omega (arith, few, n))))))
       (λ t. inl (omega arith, omega arith))

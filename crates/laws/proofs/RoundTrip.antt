@@ -1,5 +1,5 @@
--- A command that is written reads back from the same remembered point: the same letters, values and entries, ending where the writing
--- ended, with the same point after it. Said over the kinds of parameter.
+-- A command that is written reads back from the same point and mode: the same letters, values and entries, ending where the writing
+-- ended, with the same point and mode after it. Said over the kinds of parameter.
 use Prim.Native.Nat.{ℕ, _+_, _≤_, _<_}
 use mathlib.Core.Path.{_≡_, refl, sym, _∙_, ap}
 use mathlib.Core.Bool.{Bool, true, false, _&&_, _||_}
@@ -9,13 +9,15 @@ use borrow.Author.Tests.{lt-ltb, le-ltb, le-leb, leb-true, eqb-true, ne-eqb}
 use lib.Dec.{leb, eqb}
 use lib.ListN.{length, getD, length-append}
 use lib.IntN.{ℤ, pos, natAbs}
+use Rattle.memory.specs.declared.DelMode.{DelMode}
 use Rattle.memory.specs.declared.Remembered.{Remembered}
 use Rattle.memory.specs.Memory.{inside}
 use Rattle.refusals.specs.Answers.{Answer, done, refused, Read, Reads, pick, endsAfter, allAfter}
 use Rattle.refusals.proofs.Cases.{and-left, and-right, zero-one}
 use Rattle.refusals.proofs.Many.{every-split}
+use Rattle.wire.specs.Taking.{pastDels}
 use Rattle.wire.specs.Sending.{sent}
-use Rattle.wire.proofs.Feeds.{Stands, stands-left, stands-right, stands-between, Feeds, sent-taken}
+use Rattle.wire.proofs.Feeds.{past-no-del, Stands, stands-left, stands-right, stands-between, Feeds, sent-taken}
 use Rattle.signs.specs.Signs.{isInteger}
 use Rattle.numbers.specs.Integers.{spell, integerAt}
 use Rattle.numbers.specs.Counts.{countAt}
@@ -34,9 +36,10 @@ use Rattle.parameters.specs.Entries.{entryAt, entryValues, CountedRun, runAt}
 use Rattle.parameters.specs.Shapes.{Tailed, noList, listOf, Part, single, real, point, Value, number, scaled, place, shapeOf, valuesOf, tailOf}
 use Rattle.parameters.specs.Looking.{twoEntriesAt, partAt, fixedAt, tailAt, Parsed, parametersAt, entryIn}
 use Rattle.commands.specs.declared.Command.{Command}
-use Rattle.commands.specs.Reading.{letterAt, secondAt, headAt, Meaning, meaning, bodyAt, commandAt}
+use Rattle.commands.specs.Reading.{letterHere, letterAt, Letters, secondAt, headAt, Meaning, meaning, bodyAt, commandAt}
 use Rattle.writable.specs.Writable.{kindFor, kindNumber, sameKind, isKind, isEntry, areEntries, isValue, areValues, isTail, fits, isCommand}
-use Rattle.writing.specs.Writing.{spellEntry, spellEntries, spellValue, afterValue, spellValues, afterValues, spellTail, spellParameters, spellCommand}
+use Rattle.parameters.specs.Behind.{afterValue, afterValues}
+use Rattle.writing.specs.Writing.{spellEntry, spellEntries, spellValue, spellValues, spellTail, spellParameters, spellCommand}
 use Rattle.stream.specs.Items.{commandItem, itemAt}
 use Rattle.laws.specs.Laws.{carried, Back}
 
@@ -208,19 +211,30 @@ and-false : (b : Bool) → b && false ≡ false
 and-false true = refl
 and-false false = refl
 
+-- neither ESC nor DEL is a letter
 no-escape : (a : ℕ) → kindOf a 27 ≡ notInTable
 unfolding kindOf
 no-escape a = simp and-false
+
+no-del : (a : ℕ) → kindOf a 127 ≡ notInTable
+unfolding kindOf
+no-del a = simp and-false
 
 first-escape : begins 27 ≡ false
 unfolding begins
 first-escape = refl
 
+first-del : begins 127 ≡ false
+unfolding begins
+first-del = refl
+
 -- ---- the whole command
 
-letter-is : (s : List ℕ) (at b : ℕ) → at < length s → getD s at 0 ≡ b → (b ≡ 27 → ⊥) → letterAt s at ≡ done b
-unfolding letterAt
-letter-is s at b i e n = simp (lt-ltb at (length s) i, e, ne-eqb b 27 n)
+letter-is : (m : DelMode) (s : List ℕ) (at b : ℕ) → at < length s → getD s at 0 ≡ b → (b ≡ 27 → ⊥) → (b ≡ 127 → ⊥) → letterAt m s at ≡ done (record { value = b; place = at; next = at + 1 })
+unfolding letterHere
+letter-is m s at b i e n d =
+    let q : pastDels m s at ≡ at = past-no-del m s at i (λ z. d (sym e ∙ z)) in
+    simp (q, lt-ltb at (length s) i, e, ne-eqb b 27 n)
 
 module _ (kept : Remembered) (c : Command) (es : List ℤ) (ok : isCommand kept c es ≡ true) (s : List ℕ) (start : ℕ) (st : Stands s start (spellCommand kept c es)) where
   kind-ok : isKind (c .first) (c .second) (c .parameters) ≡ true
@@ -234,13 +248,12 @@ module _ (kept : Remembered) (c : Command) (es : List ℤ) (ok : isCommand kept 
   unfolding kindOf begins
   begun = found-begins table (c .first) (c .second) found
 
-  first-plain : c .first ≡ 27 → ⊥
-  first-plain e = let z : _≡_ {A = ℕ} 0 1 = let f = first-escape in let g = begun in let h : begins (c .first) ≡ begins 27 = ap begins e in cc in zero-one z
+  first-apart : (b : ℕ) → begins b ≡ false → c .first ≡ b → ⊥
+  first-apart b f e = let z : _≡_ {A = ℕ} 0 1 = let g = begun in let h : begins (c .first) ≡ begins b = ap begins e in cc in zero-one z
 
-  second-plain : c .second ≡ 27 → ⊥
-  second-plain e =
-      let f = no-escape (c .first) in
-      let h : kindOf (c .first) (c .second) ≡ kindOf (c .first) 27 = ap (kindOf (c .first)) e in
+  second-apart : (b : ℕ) → kindOf (c .first) b ≡ notInTable → c .second ≡ b → ⊥
+  second-apart b f e =
+      let h : kindOf (c .first) (c .second) ≡ kindOf (c .first) b = ap (kindOf (c .first)) e in
       let g = found in
       let z : _≡_ {A = ℕ} 0 1 = cc in zero-one z
 
@@ -252,13 +265,18 @@ module _ (kept : Remembered) (c : Command) (es : List ℤ) (ok : isCommand kept 
   unfolding spellCommand
   rest = stands-right s start (27 ∷ c .first ∷ c .second ∷ []) (spellParameters kept (valuesOf (c .parameters)) (tailOf (c .parameters)) es) st
 
-  head-back : headAt s (start + 1) ≡ done (record { first = c .first; second = c .second; kind = kindFor (c .parameters) })
+  abbrev spelledLetters : Letters
+  spelledLetters = record { first = c .first; second = c .second; kind = kindFor (c .parameters); next = start + 3 }
+
+  head-back : headAt (kept .mode) s (start + 1) ≡ done spelledLetters
   unfolding headAt secondAt
   head-back =
+      let m = kept .mode in
       let z : start + 1 + 1 ≡ start + 2 = omega arith in
-      let a = letter-is s (start + 1) (c .first) (omega (arith, letters .room)) (letters .same 1 (omega arith)) first-plain in
-      let b = letter-is s (start + 2) (c .second) (omega (arith, letters .room)) (letters .same 2 (omega arith)) second-plain in
-      rw (a, begun, z, b, found)
+      let y : start + 2 + 1 ≡ start + 3 = omega arith in
+      let a = letter-is m s (start + 1) (c .first) (omega (arith, letters .room)) (letters .same 1 (omega arith)) (first-apart 27 first-escape) (first-apart 127 first-del) in
+      let b = letter-is m s (start + 2) (c .second) (omega (arith, letters .room)) (letters .same 2 (omega arith)) (second-apart 27 (no-escape (c .first))) (second-apart 127 (no-del (c .first))) in
+      rw (a, begun, z, b, found, y)
 
   -- the three tests behind that of the letters
   tested : inside (kept .point) && (areValues (valuesOf (c .parameters)) && isTail (tailOf (c .parameters)) es) ≡ true
@@ -319,7 +337,7 @@ module _ (kept : Remembered) (c : Command) (es : List ℤ) (ok : isCommand kept 
       let i : start < length s = omega (arith, letters .room) in
       let t : leb (list-back .held .count) room ≡ true = le-leb (list-back .held .count) room (omega (arith, list-back .number-is)) in
       record {
-        read = meaning (c .first) (c .second) s parsed;
+        read = meaning kept spelledLetters s parsed;
         whole = rw (le-ltb (length s) start (omega (arith, i)), last-inside, lt-ltb start (length s) i, escape, head-back, parameters-back, t);
         first-is = refl;
         second-is = refl;

@@ -10,13 +10,14 @@ use lib.Dec.{leb, ltb, eqb}
 use lib.ListN.{length, getD, length-append}
 use lib.IntN.{ℤ, pos, natAbs}
 use Rattle.memory.specs.declared.Point.{Point}
+use Rattle.memory.specs.declared.DelMode.{DelMode}
 use Rattle.memory.specs.declared.Remembered.{Remembered}
 use Rattle.memory.specs.Memory.{inside, remember}
 use Rattle.refusals.specs.Answers.{Answer, done, refused, Read, then, pick, endsAfter, allAfter, every}
 use Rattle.refusals.proofs.Cases.{by-pick, by-then, Done, done-of, done-map, is-done, not-done, and-left, and-right}
-use Rattle.wire.specs.Taking.{byteAt}
+use Rattle.wire.specs.Taking.{pastDels, byteAt}
 use Rattle.wire.specs.Sending.{sent}
-use Rattle.wire.proofs.Feeds.{took, took-least}
+use Rattle.wire.proofs.Feeds.{dels-on, took, took-least}
 use Rattle.signs.specs.Signs.{isInteger}
 use Rattle.numbers.specs.Integers.{spell, integerAt}
 use Rattle.numbers.specs.Counts.{countAt}
@@ -32,9 +33,12 @@ use Rattle.parameters.specs.Entries.{entryAt, asEntry, entryValues, CountedRun,
 use Rattle.parameters.specs.Shapes.{Tailed, noList, listOf, Part, single, real, point, Shape, Value, number, scaled, place, shapeOf, valuesOf, tailOf}
 use Rattle.parameters.specs.Looking.{TwoEntries, twoEntriesAt, Fixed, partAt, fixedAt, tailAt, Parsed, parametersAt, entryIn, parsedEntries}
 use Rattle.commands.specs.declared.Command.{Command}
-use Rattle.commands.specs.Reading.{letterAt, Letters, completed, secondAt, headAt, Meaning, meaning, bodyAt, commandAt}
+use Rattle.commands.specs.Reading.{letterHere, letterAt, Letters, completed, secondAt, headAt, Meaning, meaning, bodyAt, commandAt}
 use Rattle.writable.specs.Writable.{kindFor, kindNumber, isKind, isEntry, areEntries, isValue, areValues, isTail, fits, isCommand}
-use Rattle.writing.specs.Writing.{spellEntry, spellEntries, spellValue, afterValue, spellValues, afterValues, spellTail, spellParameters, spellCommand}
+use Rattle.parameters.specs.Behind.{afterValue, afterValues}
+use Rattle.parameters.proofs.Kept.{fixed-kept}
+use Rattle.commands.specs.Behind.{afterCommand}
+use Rattle.writing.specs.Writing.{spellEntry, spellEntries, spellValue, spellValues, spellTail, spellParameters, spellCommand}
 use Rattle.laws.specs.Laws.{SaysSo, NoShorter}
 use Rattle.laws.proofs.RoundTrip.{partOf, shape-is}
 
@@ -168,11 +172,6 @@ unfolding every
 every-append ok [] ys h g = g
 every-append ok (x ∷ xs) ys h g = rw (and-left (ok x) (every ok xs) h) (every-append ok xs ys (and-right (ok x) (every ok xs) h) g)
 
-after-append : (kept : Remembered) (xs ys : List Value) → afterValues kept (xs ++ ys) ≡ afterValues (afterValues kept xs) ys
-unfolding afterValues
-after-append kept [] ys = refl
-after-append kept (x ∷ xs) ys = after-append (afterValue kept x) xs ys
-
 spell-append : (kept : Remembered) (xs ys : List Value) → spellValues kept (xs ++ ys) ≡ spellValues kept xs ++ spellValues (afterValues kept xs) ys
 unfolding spellValues afterValues
 spell-append kept [] ys = refl
@@ -184,8 +183,8 @@ map-append : (xs ys : List Value) → map partOf (xs ++ ys) ≡ map partOf xs ++
 map-append [] ys = refl
 map-append (x ∷ xs) ys = ap (λ (l : List Part). partOf x ∷ l) (map-append xs ys)
 
-behind : (kept : Remembered) (p : Part) (ps : List Part) (s : List ℕ) (at : ℕ) (f g : Fixed) → FixedShown kept (p ∷ []) s at f → FixedShown (f .kept) ps s (f .next) g → FixedShown kept (p ∷ ps) s at (record { values = f .values ++ g .values; next = g .next; kept = g .kept })
-behind kept p ps s at f g a b =
+behind : (kept : Remembered) (p : Part) (ps : List Part) (s : List ℕ) (at : ℕ) (f g : Fixed) → FixedShown kept (p ∷ []) s at f → FixedShown (f .kept) ps s (f .next) g → g .kept ≡ afterValues kept (f .values ++ g .values) → FixedShown kept (p ∷ ps) s at (record { values = f .values ++ g .values; next = g .next; kept = g .kept })
+behind kept p ps s at f g a b left =
     let k = a .kept-is in
     let w = spellValues kept (f .values) in
     let v = spellValues (f .kept) (g .values) in
@@ -194,7 +193,7 @@ behind kept p ps s at f g a b =
       writable = every-append isValue (f .values) (g .values) (a .writable) (b .writable);
       parts-are = map-append (f .values) (g .values) ∙ rw (a .parts-are, b .parts-are);
       shortest = omega (arith, a .shortest, b .shortest, ap length e, length-append w v);
-      kept-is = b .kept-is ∙ ap (λ (m : Remembered). afterValues m (g .values)) k ∙ sym (after-append kept (f .values) (g .values));
+      kept-is = left;
       forward = omega (arith, a .forward, b .forward);
       within = b .within;
     }
@@ -208,7 +207,9 @@ fixed-good kept (p ∷ ps) s at h =
     (λ f q.
     let a = done-of (FixedShown kept (p ∷ []) s at) (part-good kept p s at) q in
     by-then (Done (FixedShown kept (p ∷ ps) s at)) (fixedAt (f .kept) ps s (f .next)) _
-    (λ g r. is-done (FixedShown kept (p ∷ ps) s at) (behind kept p ps s at f g a (done-of (FixedShown (f .kept) ps s (f .next)) (fixed-good (f .kept) ps s (f .next) (a .within)) r)))
+    (λ g r.
+    let all : fixedAt kept (p ∷ ps) s at ≡ done (record { values = f .values ++ g .values; next = g .next; kept = g .kept }) = rw (q, r) in
+    is-done (FixedShown kept (p ∷ ps) s at) (behind kept p ps s at f g a (done-of (FixedShown (f .kept) ps s (f .next)) (fixed-good (f .kept) ps s (f .next) (a .within)) r) (fixed-kept kept (p ∷ ps) s at all)))
     (λ x y r. not-done (FixedShown kept (p ∷ ps) s at) x y))
     (λ x y q. not-done (FixedShown kept (p ∷ ps) s at) x y)
 
@@ -249,33 +250,44 @@ tail-good kept (listOf e) s at h =
 
 -- ---- the letters
 
+-- a letter stands behind the DELs that are passed over, within the bytes
+pub record LetterShown (s : List ℕ) (at : ℕ) (b : Read ℕ) : Type 0 where
+  pub from : at ≤ b .place
+  pub behind-it : b .place < b .next
+  pub within : b .next ≤ length s
+
+here-good : (s : List ℕ) (at p : ℕ) → at ≤ p → Done (LetterShown s at) (letterHere s p)
+unfolding letterHere
+here-good s at p h =
+    by-pick (Done (LetterShown s at)) (ltb p (length s)) _ _
+    (λ t. by-pick (Done (LetterShown s at)) (eqb (getD s p 0) 27) _ _
+    (λ u. not-done (LetterShown s at) 6 p)
+    (λ u. let l = ltb-true p (length s) t in is-done (LetterShown s at) (record { from = h; behind-it = omega arith; within = omega (arith, l) })))
+    (λ t. not-done (LetterShown s at) 1 (length s))
+
+pub letter-shown : (m : DelMode) (s : List ℕ) (at : ℕ) {b : Read ℕ} → letterAt m s at ≡ done b → LetterShown s at b
+letter-shown m s at e = done-of (LetterShown s at) (here-good s at (pastDels m s at) (dels-on m s at)) e
+
 pub record HeadShown (s : List ℕ) (at : ℕ) (h : Letters) : Type 0 where
   pub known : kindOf (h .first) (h .second) ≡ inTable (h .kind)
-  pub room : at + 2 ≤ length s
+  pub two : at + 2 ≤ h .next
+  pub room : h .next ≤ length s
 
-pub letter-good : (s : List ℕ) (at : ℕ) → Done (λ (b : ℕ). at < length s) (letterAt s at)
-unfolding letterAt
-letter-good s at =
-    by-pick (Done (λ (b : ℕ). at < length s)) (ltb at (length s)) _ _
-    (λ t. by-pick (Done (λ (b : ℕ). at < length s)) (eqb (getD s at 0) 27) _ _
-    (λ u. not-done (λ (b : ℕ). at < length s) 6 at)
-    (λ u. is-done (λ (b : ℕ). at < length s) (ltb-true at (length s) t)))
-    (λ t. not-done (λ (b : ℕ). at < length s) 1 (length s))
+completed-good : (s : List ℕ) (at a : ℕ) (b : Read ℕ) (f : Tabled) → kindOf a (b .value) ≡ f → at + 2 ≤ b .next → b .next ≤ length s → Done (HeadShown s at) (completed a b f)
+completed-good s at a b (inTable k) e h w = is-done (HeadShown s at) (record { known = e; two = h; room = w })
+completed-good s at a b notInTable e h w = not-done (HeadShown s at) 2 (b .place)
 
-completed-good : (s : List ℕ) (at a b p : ℕ) (f : Tabled) → kindOf a b ≡ f → at + 2 ≤ length s → Done (HeadShown s at) (completed a b p f)
-completed-good s at a b p (inTable k) e h = is-done (HeadShown s at) (record { known = e; room = h })
-completed-good s at a b p notInTable e h = not-done (HeadShown s at) 2 p
-
-pub head-good : (s : List ℕ) (at : ℕ) → Done (HeadShown s at) (headAt s at)
+pub head-good : (m : DelMode) (s : List ℕ) (at : ℕ) → Done (HeadShown s at) (headAt m s at)
 unfolding headAt secondAt
-head-good s at =
-    by-then (Done (HeadShown s at)) (letterAt s at) _
-    (λ a g. by-pick (Done (HeadShown s at)) (begins a) _ _
-    (λ t. by-then (Done (HeadShown s at)) (letterAt s (at + 1)) _
-    (λ b h. let i = done-of (λ (c : ℕ). at + 1 < length s) (letter-good s (at + 1)) h in
-    completed-good s at a b (at + 1) (kindOf a b) refl (omega arith))
+head-good m s at =
+    by-then (Done (HeadShown s at)) (letterAt m s at) _
+    (λ a g. let i = letter-shown m s at g in
+    by-pick (Done (HeadShown s at)) (begins (a .value)) _ _
+    (λ t. by-then (Done (HeadShown s at)) (letterAt m s (a .next)) _
+    (λ b h. let j = letter-shown m s (a .next) h in
+    completed-good s at (a .value) b (kindOf (a .value) (b .value)) refl (omega (arith, i .from, i .behind-it, j .from, j .behind-it)) (j .within))
     (λ x p h. not-done (HeadShown s at) x p))
-    (λ t. not-done (HeadShown s at) 2 at))
+    (λ t. not-done (HeadShown s at) 2 (a .place)))
     (λ x p g. not-done (HeadShown s at) x p)
 
 -- ---- the whole command
@@ -288,22 +300,21 @@ pub record Shown (kept : Remembered) (s : List ℕ) (start : ℕ) (m : Meaning) 
   pub tail-ok : isTail (m .tail) (m .entries) ≡ true
   pub count-is : m .count ≡ length (m .entries)
   pub shortest : start + (3 + length (spellParameters kept (m .values) (m .tail) (m .entries))) ≤ m .next
-  pub kept-is : m .kept ≡ afterValues kept (m .values)
+  pub kept-is : m .kept ≡ afterCommand kept (m .first) (m .second) (m .values)
   pub forward : start < m .next
   pub within : m .next ≤ length s
 
-module _ (kept : Remembered) (k : ParameterKind) (s : List ℕ) (start : ℕ) (room : start + 3 ≤ length s) where
+module _ (kept : Remembered) (k : ParameterKind) (s : List ℕ) (start from : ℕ) (behind-them : start + 3 ≤ from) (room : from ≤ length s) where
   record ParsedShown (p : Parsed) : Type 0 where
     shape-ok : shapeOf k ≡ record { fixed = map partOf (p .values); tail = p .tail }
     values-good : areValues (p .values) ≡ true
     tail-is-good : isTail (p .tail) (parsedEntries s p) ≡ true
     count-good : p .count ≡ length (parsedEntries s p)
     short : start + (3 + length (spellParameters kept (p .values) (p .tail) (parsedEntries s p))) ≤ p .next
-    kept-good : p .kept ≡ afterValues kept (p .values)
     on : start < p .next
     inside-of : p .next ≤ length s
 
-  joined : (f : Fixed) (h : CountedRun) → FixedShown kept (shapeOf k .fixed) s (start + 3) f → TailShown (f .kept) (shapeOf k .tail) s (f .next) h → ParsedShown (record { values = f .values; tail = shapeOf k .tail; start = h .start; count = h .count; next = h .next; kept = f .kept })
+  joined : (f : Fixed) (h : CountedRun) → FixedShown kept (shapeOf k .fixed) s from f → TailShown (f .kept) (shapeOf k .tail) s (f .next) h → ParsedShown (record { values = f .values; tail = shapeOf k .tail; start = h .start; count = h .count; next = h .next; kept = f .kept })
   unfolding spellParameters
   joined f h a b =
       let w = spellValues kept (f .values) in
@@ -315,17 +326,16 @@ module _ (kept : Remembered) (k : ParameterKind) (s : List ℕ) (start : ℕ) (r
         tail-is-good = b .writable;
         count-good = sym (b .number-is);
         short = omega (arith, a .shortest, b .shortest, ap length e, length-append w t);
-        kept-good = a .kept-is;
         on = omega (arith, a .forward, b .forward);
         inside-of = b .within;
       }
 
-  parsed-good : Done ParsedShown (parametersAt kept (shapeOf k) s (start + 3))
+  parsed-good : Done ParsedShown (parametersAt kept (shapeOf k) s from)
   unfolding parametersAt
   parsed-good =
-      by-then (Done ParsedShown) (fixedAt kept (shapeOf k .fixed) s (start + 3)) _
+      by-then (Done ParsedShown) (fixedAt kept (shapeOf k .fixed) s from) _
       (λ f g.
-      let a = done-of (FixedShown kept (shapeOf k .fixed) s (start + 3)) (fixed-good kept (shapeOf k .fixed) s (start + 3) room) g in
+      let a = done-of (FixedShown kept (shapeOf k .fixed) s from) (fixed-good kept (shapeOf k .fixed) s from room) g in
       by-then (Done ParsedShown) (tailAt (f .kept) (shapeOf k .tail) s (f .next)) _
       (λ h q. is-done ParsedShown (joined f h a (done-of (TailShown (f .kept) (shapeOf k .tail) s (f .next)) (tail-good (f .kept) (shapeOf k .tail) s (f .next) (a .within)) q)))
       (λ x p q. not-done ParsedShown x p))
@@ -335,13 +345,13 @@ command-good : (kept : Remembered) (s : List ℕ) (start room : ℕ) → Done (S
 unfolding commandAt bodyAt
 command-good kept s start room =
     by-pick (Done (Shown kept s start)) (ltb start (length s)) _ _
-    (λ t. by-then (Done (Shown kept s start)) (headAt s (start + 1)) _
+    (λ t. by-then (Done (Shown kept s start)) (headAt (kept .mode) s (start + 1)) _
     (λ h g.
-    let a = done-of (HeadShown s (start + 1)) (head-good s (start + 1)) g in
-    let r : start + 3 ≤ length s = omega (arith, a .room) in
-    by-then (Done (Shown kept s start)) (parametersAt kept (shapeOf (h .kind)) s (start + 3)) _
+    let a = done-of (HeadShown s (start + 1)) (head-good (kept .mode) s (start + 1)) g in
+    let l : start + 3 ≤ h .next = omega (arith, a .two) in
+    by-then (Done (Shown kept s start)) (parametersAt kept (shapeOf (h .kind)) s (h .next)) _
     (λ p q.
-    let b = done-of (ParsedShown kept (h .kind) s start r) (parsed-good kept (h .kind) s start r) q in
+    let b = done-of (ParsedShown kept (h .kind) s start (h .next) l (a .room)) (parsed-good kept (h .kind) s start (h .next) l (a .room)) q in
     by-pick (Done (Shown kept s start)) (leb (p .count) room) _ _
     (λ u. is-done (Shown kept s start) (record {
       kind = h .kind;
@@ -351,7 +361,7 @@ command-good kept s start room =
       tail-ok = b .tail-is-good;
       count-is = b .count-good;
       shortest = b .short;
-      kept-is = b .kept-good;
+      kept-is = refl;
       forward = b .on;
       within = b .inside-of;
     }))

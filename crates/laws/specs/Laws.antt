@@ -1,6 +1,6 @@
 -- What the laws of whole commands say, over the items that reading gives. Demand 2: "A writable command, written and read again from the same remembered
--- point, comes back with the same remembered point after it. No spelling that reads as that command from that point is shorter." Demand 1: "Every input is
--- answered: all byte strings". proofs/ proves it.
+-- point, comes back with the same remembered point after it. No spelling that reads as that command from that point is shorter." Since K2 it "reads 'from
+-- the same point and mode'": what is remembered is both. Demand 1: "Every input is answered: all byte strings". proofs/ proves it.
 use Prim.Native.Nat.{ℕ, zero, suc, _+_, _≤_, _<_}
 use mathlib.Core.Path.{_≡_}
 use mathlib.Core.List.{List, []}
@@ -12,8 +12,9 @@ use Rattle.wire.specs.Sending.{afterWrite}
 use Rattle.parameters.specs.Shapes.{Tailed, noList, listOf, valuesOf, tailOf}
 use Rattle.commands.specs.declared.Command.{Command}
 use Rattle.commands.specs.Reading.{Meaning}
-use Rattle.writing.specs.Writing.{afterValues, spellCommand}
-use Rattle.stream.specs.Items.{Itemed, nothing, text, command, refusedCommand, refusedCall, itemAt}
+use Rattle.commands.specs.Behind.{afterCommand}
+use Rattle.writing.specs.Writing.{spellCommand}
+use Rattle.stream.specs.Items.{Itemed, nothing, text, del, command, refusedCommand, refusedCall, itemAt}
 
 -- ---- the round trip
 
@@ -33,7 +34,7 @@ pub record Back (kept : Remembered) (c : Command) (es : List ℤ) (n : ℕ) (s :
   pub entries-are : read .entries ≡ carried (tailOf (c .parameters)) es
   pub count-is : read .count ≡ length (carried (tailOf (c .parameters)) es)
   pub next-is : read .next ≡ start + n
-  pub kept-is : read .kept ≡ afterValues kept (valuesOf (c .parameters))
+  pub kept-is : read .kept ≡ afterCommand kept (c .first) (c .second) (valuesOf (c .parameters))
 
 -- the bytes that `write_command` gives: so many of the lent ones as it leaves them
 abbrev pub given : Remembered → Command → List ℤ → (out : List ℕ) → (n : ℕ) → List ℕ
@@ -59,6 +60,7 @@ NoShorter kept start c m = start + length (spellCommand kept c (m .entries)) ≤
 unfoldable pub Onward : (held : ℕ → Type 0) → (rest : Remembered → ℕ → Type 0) → List ℕ → Remembered → ℕ → Itemed Meaning → Type 0
 Onward held rest s kept start nothing = start ≡ length s
 Onward held rest s kept start (text b n) = ((n ≡ start + 1) × (n ≤ length s)) × rest kept n
+Onward held rest s kept start (del n) = ((n ≡ start + 1) × (n ≤ length s)) × rest kept n
 Onward held rest s kept start (command m) = ((start < m .next) × (m .next ≤ length s)) × rest (m .kept) (m .next)
 Onward held rest s kept start (refusedCommand e p n k) =
     (((1 ≤ e) × (e ≤ 6)) × ((start < p) × ((p ≤ n) × (n ≤ length s)))) × ((k ≡ kept) × rest k n)
