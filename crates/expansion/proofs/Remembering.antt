@@ -8,7 +8,7 @@ use lib.Dec.{eqb, ltb}
 use lib.ListN.{length}
 use lib.IntN.{ℤ}
 use Rattle.memory.specs.declared.Remembered.{Remembered}
-use Rattle.memory.specs.Memory.{inside, freshMemory}
+use Rattle.memory.specs.Memory.{inside}
 use Rattle.refusals.proofs.Cases.{by-pick}
 use Rattle.signs.specs.Signs.{isNegative}
 use Rattle.macros.specs.Store.{threeBytes, lookedUp}
@@ -49,6 +49,6 @@ pub call-inside : (volatile saved : List ℕ) (d : ℕ) (number : ℤ) (kept : R
 unfolding callStretch
 call-inside volatile saved d number kept n j = entering-inside (lookedUp threeBytes volatile saved) d number kept n j
 
-pub started-inside : (volatile saved : List ℕ) (number : ℤ) → inside (started volatile saved number .kept .point) ≡ true
+pub started-inside : (volatile saved : List ℕ) (number : ℤ) (kept : Remembered) → inside (kept .point) ≡ true → inside (started volatile saved number kept .kept .point) ≡ true
 unfolding started
-started-inside volatile saved number = call-inside volatile saved 8 number freshMemory 0 refl
+started-inside volatile saved number kept j = call-inside volatile saved 8 number kept 0 j

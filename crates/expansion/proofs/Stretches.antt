@@ -11,7 +11,6 @@ use lib.ListN.{length, drop, length-append, length-drop}
 use lib.Seq.{length-take-le}
 use lib.IntN.{ℤ}
 use Rattle.memory.specs.declared.Remembered.{Remembered}
-use Rattle.memory.specs.Memory.{freshMemory}
 use Rattle.refusals.specs.Answers.{pick}
 use Rattle.refusals.proofs.Cases.{by-pick}
 use Rattle.signs.specs.Signs.{isNegative}
@@ -115,10 +114,10 @@ unfolding callStretch
 call-small volatile saved d number kept n h = entering-small (lookedUp threeBytes volatile saved) (looked-up-short volatile saved) d number kept n h
 
 -- so of a whole expansion
-pub most-entered : (volatile saved : List ℕ) (number : ℤ) → started volatile saved number .entered ≤ 1024
+pub most-entered : (volatile saved : List ℕ) (number : ℤ) (kept : Remembered) → started volatile saved number kept .entered ≤ 1024
 unfolding started
-most-entered volatile saved number = call-small volatile saved 8 number freshMemory 0 (omega arith) .few
+most-entered volatile saved number kept = call-small volatile saved 8 number kept 0 (omega arith) .few
 
-pub most-bytes : (volatile saved : List ℕ) (number : ℤ) → length (started volatile saved number .bytes) ≤ 262144
+pub most-bytes : (volatile saved : List ℕ) (number : ℤ) (kept : Remembered) → length (started volatile saved number kept .bytes) ≤ 262144
 unfolding started
-most-bytes volatile saved number = let s = call-small volatile saved 8 number freshMemory 0 (omega arith) in omega (arith, s .cap)
+most-bytes volatile saved number kept = let s = call-small volatile saved 8 number kept 0 (omega arith) in omega (arith, s .cap)

@@ -1,19 +1,21 @@
 -- "Expanding copies a body's items, with each KX replaced by the expansion of the macro that it names."
 use Prim.Native.Nat.{ℕ, zero, suc, _+_, _-_}
-use mathlib.Core.Bool.{Bool, true, false}
+use mathlib.Core.Bool.{_&&_}
 use mathlib.Core.List.{List, [], _∷_, _++_}
 use lib.ListN.{length, take, drop}
 use lib.Dec.{eqb, leb, ltb}
 use lib.IntN.{ℤ}
 use Rattle.memory.specs.declared.Remembered.{Remembered}
-use Rattle.memory.specs.Memory.{freshMemory}
+use Rattle.memory.specs.Memory.{inside}
 use Rattle.signs.specs.Signs.{isNegative}
 use Rattle.refusals.specs.Refusals.{numberOf}
-use Rattle.refusals.specs.Answers.{pick, demand}
-use Rattle.macros.specs.Store.{threeBytes, lookedUp, findRefusal}
+use Rattle.refusals.specs.Answers.{Answer, done, pick, demand}
+use Rattle.refusals.specs.Answers as Answers
+use Rattle.macros.specs.Store.{threeBytes, wellFormed, lookedUp, findRefusal}
 use Rattle.pieces.specs.Pieces.{Pieced, end, copied, called, trouble, pieceAt}
 use Rattle.expansion.specs.declared.Expansion.{Expansion}
 use Rattle.expansion.specs.declared.Expansion.the-variants as Expansion
+use Rattle.expansion.specs.declared.Expanded.{Expanded}
 use Rattle.expansion.specs.declared.Going.{Going}
 use Rattle.expansion.specs.declared.Step.{Step}
 use Rattle.expansion.specs.declared.Step.the-variants as Step
@@ -82,9 +84,10 @@ callStretch volatile saved d number kept n = entering (lookedUp threeBytes volat
 unfoldable pub bodyStretch : (volatile saved : List ℕ) → (d : ℕ) → List ℕ → Remembered → ℕ → Stretch
 bodyStretch volatile saved d body kept n = wholeBody (callStretch volatile saved d) body kept n
 
--- "the starting macro has depth 1 and counts as the first entered": eight depths are left, and none has been entered
-unfoldable pub started : (volatile saved : List ℕ) → ℤ → Stretch
-started volatile saved number = callStretch volatile saved 8 number freshMemory 0
+-- "the starting macro has depth 1 and counts as the first entered": eight depths are left, and none has been entered. "Macro bodies are read in the
+-- caller's mode, and a KI in a body holds from there on": what is remembered is the caller's
+unfoldable pub started : (volatile saved : List ℕ) → ℤ → Remembered → Stretch
+started volatile saved number kept = callStretch volatile saved 8 number kept 0
 
 -- ---- what is said of a stretch that begins at a place of the output
 
@@ -101,19 +104,14 @@ reachedBy at c = pick (eqb (c .number) 0) (on (record { at = at + length (c .byt
 
 -- ---- the whole call
 
--- "The answer gives bytes written and macros entered."
-pub record ExpansionAnswer : Type 0 where
-  pub number : ℕ
-  pub written : ℕ
-  pub entered : ℕ
-
-unfoldable pub expansionOf : Expansion → ExpansionAnswer
-expansionOf (Expansion.Expanded k) = record { number = 0; written = k .written; entered = k .entered }
-expansionOf (Expansion.Refused e) = record { number = numberOf e; written = 0; entered = 0 }
+-- "The answer gives bytes written and macros entered", and what is then remembered
+unfoldable pub expansionOf : Expansion → Answer Expanded
+expansionOf (Expansion.Done k) = done k
+expansionOf (Expansion.Refused e) = Answers.refused (numberOf e) 0
 
 -- "Counts with a refusal are 0"
-abbrev pub toldOf : (f : ℕ) → Stretch → ExpansionAnswer
-toldOf f c = record { number = f; written = pick (eqb f 0) (length (c .bytes)) 0; entered = pick (eqb f 0) (c .entered) 0 }
+abbrev pub toldOf : (f : ℕ) → Stretch → Answer Expanded
+toldOf f c = pick (eqb f 0) (done (record { written = length (c .bytes); entered = c .entered; kept = c .kept })) (Answers.refused f 0)
 
 -- "Beyond the result a lent list or output is unchanged"
 abbrev pub outOf : (f : ℕ) → Stretch → List ℕ → List ℕ
@@ -127,19 +125,24 @@ orNext f next = pick (eqb f 0) next f
 abbrev pub roomRefusal : Stretch → (room : ℕ) → ℕ
 roomRefusal c room = orNext (c .number) (demand (leb (length (c .bytes)) room) 7 0)
 
-unfoldable pub roomTold : Stretch → (room : ℕ) → ExpansionAnswer
+unfoldable pub roomTold : Stretch → (room : ℕ) → Answer Expanded
 roomTold c room = toldOf (roomRefusal c room) c
 
 unfoldable pub roomOut : Stretch → List ℕ → List ℕ
 roomOut c out = outOf (roomRefusal c (length out)) c out
 
--- "the start first gives 12 (volatile store first), 8, 14"
-unfoldable pub expandRefusal : (volatile saved : List ℕ) → ℤ → (room : ℕ) → ℕ
-expandRefusal volatile saved number room =
-    orNext (findRefusal threeBytes volatile saved number) (roomRefusal (started volatile saved number) room)
+-- "the start first gives 12 (volatile store first), 8, 14"; a remembered point outside is a value out of its range too
+unfoldable pub startRefusal : (volatile saved : List ℕ) → ℤ → Remembered → ℕ
+startRefusal volatile saved number kept =
+    demand (wellFormed threeBytes volatile && wellFormed threeBytes saved) 12
+    (demand (inside (kept .point)) 8 (findRefusal threeBytes volatile saved number))
 
-unfoldable pub expandTold : (volatile saved : List ℕ) → ℤ → (room : ℕ) → ExpansionAnswer
-expandTold volatile saved number room = toldOf (expandRefusal volatile saved number room) (started volatile saved number)
+module _ (volatile saved : List ℕ) (number : ℤ) (kept : Remembered) where
+  unfoldable pub expandRefusal : (room : ℕ) → ℕ
+  expandRefusal room = orNext (startRefusal volatile saved number kept) (roomRefusal (started volatile saved number kept) room)
 
-unfoldable pub expandOut : (volatile saved : List ℕ) → ℤ → List ℕ → List ℕ
-expandOut volatile saved number out = outOf (expandRefusal volatile saved number (length out)) (started volatile saved number) out
+  unfoldable pub expandTold : (room : ℕ) → Answer Expanded
+  expandTold room = toldOf (expandRefusal room) (started volatile saved number kept)
+
+  unfoldable pub expandOut : List ℕ → List ℕ
+  expandOut out = outOf (expandRefusal (length out)) (started volatile saved number kept) out

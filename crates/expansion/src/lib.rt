@@ -1,7 +1,11 @@
 // Expanding a macro. Reading a body and entering a named macro call one another; a loop over the body's pieces keeps the stack small.
 // First a run that only looks finds the first trouble, the length and the macros entered; then, where all of it fits, one that writes.
 ghost use mathlib.Core.Path.{_≡_};
+ghost use mathlib.Core.Bool.{_&&_};
 ghost use lib.ListN.{length};
+ghost use Rattle.refusals.specs.Refusals.{numberOf};
+ghost use Rattle.refusals.specs.Answers.{demand};
+ghost use Rattle.macros.specs.Store.{threeBytes, wellFormed};
 ghost use Rattle.expansion.specs.Expansion.{stepOf, reachedBy, bodyStretch, callStretch, expansionOf, expandTold, expandOut, roomTold, roomOut, started};
 ghost use Rattle.expansion.specs.Running.{BothFormed, Roomy, Ran};
 use macros::Finding;
@@ -15,14 +19,15 @@ const DEEPEST: usize = 8;
 // "a 1,025th macro would be entered"
 const MOST_ENTERED: usize = 1024;
 
-// "bytes written and macros entered"
-pub struct Counts {
+// "bytes written and macros entered", and what is remembered behind them
+pub struct Expanded {
     pub written: usize,
     pub entered: usize,
+    pub kept: Remembered,
 }
 
 pub enum Expansion {
-    Expanded(Counts),
+    Done(Expanded),
     Refused(Refusal),
 }
 
@@ -118,12 +123,17 @@ fn enter<'a>(
     walk(volatile, saved, body, depth - 1, inner, out)
 }
 
-// The starting macro: it has depth 1 and is the first entered.
-fn run<'a>(volatile: &'a [u8], saved: &'a [u8], number: i32, out: &mut [u8]) -> Step
+// The starting macro: it has depth 1 and is the first entered. Its body is read from what the caller remembers.
+fn run<'a>(
+    volatile: &'a [u8],
+    saved: &'a [u8],
+    number: i32,
+    kept: Remembered,
+    out: &mut [u8],
+) -> Step
     requires { ⌜ BothFormed (now volatile) (now saved) ⌝ }
-    ensures { λ r. ⌜ Ran (started (now (volatile .entry)) (now (saved .entry)) number) 0 (now (out .entry)) (now (out .exit)) r ⌝ }
+    ensures { λ r. ⌜ Ran (started (now (volatile .entry)) (now (saved .entry)) number kept) 0 (now (out .entry)) (now (out .exit)) r ⌝ }
 {
-    let kept = memory::fresh();
     let start = Going {
         at: 0,
         entered: 0,
@@ -133,44 +143,73 @@ fn run<'a>(volatile: &'a [u8], saved: &'a [u8], number: i32, out: &mut [u8]) -> 
 }
 
 // A run that has no room to write in.
-fn look<'a>(volatile: &'a [u8], saved: &'a [u8], number: i32) -> Step
+fn look<'a>(volatile: &'a [u8], saved: &'a [u8], number: i32, kept: Remembered) -> Step
     requires { ⌜ BothFormed (now volatile) (now saved) ⌝ }
-    ensures { λ r. ⌜ stepOf r ≡ reachedBy 0 (started (now (volatile .entry)) (now (saved .entry)) number) ⌝ }
+    ensures { λ r. ⌜ stepOf r ≡ reachedBy 0 (started (now (volatile .entry)) (now (saved .entry)) number kept) ⌝ }
 {
     let mut none = [0; 1];
-    run(volatile, saved, number, &mut none[..0])
+    run(volatile, saved, number, kept, &mut none[..0])
 }
 
 // A macro that is there: the first trouble on the way, then 7.
-fn expand_found<'a>(volatile: &'a [u8], saved: &'a [u8], number: i32, out: &mut [u8]) -> Expansion
+fn expand_found<'a>(
+    volatile: &'a [u8],
+    saved: &'a [u8],
+    number: i32,
+    kept: Remembered,
+    out: &mut [u8],
+) -> Expansion
     requires { ⌜ BothFormed (now volatile) (now saved) ⌝ }
-    ensures { λ r. ⌜ expansionOf r ≡ roomTold (started (now (volatile .entry)) (now (saved .entry)) number) (length (now (out .entry))) ⌝ }
-    ensures { λ r. ⌜ now (out .exit) ≡ roomOut (started (now (volatile .entry)) (now (saved .entry)) number) (now (out .entry)) ⌝ }
+    ensures { λ r. ⌜ expansionOf r ≡ roomTold (started (now (volatile .entry)) (now (saved .entry)) number kept) (length (now (out .entry))) ⌝ }
+    ensures { λ r. ⌜ now (out .exit) ≡ roomOut (started (now (volatile .entry)) (now (saved .entry)) number kept) (now (out .entry)) ⌝ }
 {
-    match look(volatile, saved, number) {
+    match look(volatile, saved, number, kept) {
         Step::Refused(e) => Expansion::Refused(e),
         Step::On(end) => {
             let written = end.at;
             let entered = end.entered;
+            let after = end.kept;
             if written > out.len() {
                 return Expansion::Refused(Refusal::TooShort);
             }
-            run(volatile, saved, number, out);
-            Expansion::Expanded(Counts {
+            run(volatile, saved, number, kept, out);
+            Expansion::Done(Expanded {
                 written: written,
                 entered: entered,
+                kept: after,
             })
         }
     }
 }
 
-// The expansion of a macro. The start first gives 12, 8, 14; nothing is written unless all of it fits.
-pub fn expand<'a>(volatile: &'a [u8], saved: &'a [u8], number: i32, out: &mut [u8]) -> Expansion
-    ensures { λ r. ⌜ expansionOf r ≡ expandTold (now (volatile .entry)) (now (saved .entry)) number (length (now (out .entry))) ⌝ }
-    ensures { λ r. ⌜ now (out .exit) ≡ expandOut (now (volatile .entry)) (now (saved .entry)) number (now (out .entry)) ⌝ }
+// What is given where the remembered point is outside: 12 first, then 8.
+fn outside<'a>(volatile: &'a [u8], saved: &'a [u8]) -> Refusal
+    ensures { λ r. ⌜ numberOf r ≡ demand (wellFormed threeBytes (now (volatile .entry)) && wellFormed threeBytes (now (saved .entry))) 12 8 ⌝ }
 {
-    match macros::found(volatile, saved, number) {
-        Finding::Refused(e) => Expansion::Refused(e),
-        Finding::Found => expand_found(volatile, saved, number, out),
+    if macros::is_well_formed(volatile) {
+        if macros::is_well_formed(saved) {
+            return Refusal::NotValid;
+        }
     }
+    Refusal::StoreMalformed
+}
+
+// The expansion of a macro. The start first gives 12, 8, 14; nothing is written unless all of it fits.
+pub fn expand<'a>(
+    volatile: &'a [u8],
+    saved: &'a [u8],
+    number: i32,
+    kept: Remembered,
+    out: &mut [u8],
+) -> Expansion
+    ensures { λ r. ⌜ expansionOf r ≡ expandTold (now (volatile .entry)) (now (saved .entry)) number kept (length (now (out .entry))) ⌝ }
+    ensures { λ r. ⌜ now (out .exit) ≡ expandOut (now (volatile .entry)) (now (saved .entry)) number kept (now (out .entry)) ⌝ }
+{
+    if memory::is_inside(kept.point) {
+        return match macros::found(volatile, saved, number) {
+            Finding::Refused(e) => Expansion::Refused(e),
+            Finding::Found => expand_found(volatile, saved, number, kept, out),
+        };
+    }
+    Expansion::Refused(outside(volatile, saved))
 }

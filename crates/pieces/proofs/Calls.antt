@@ -12,7 +12,7 @@ use Rattle.parameters.specs.Shapes.{Tailed, Part, single, Shape, Value, number,
 use Rattle.commands.specs.Reading.{Meaning, commandAt}
 use Rattle.laws.proofs.RoundTrip.{partOf}
 use Rattle.laws.proofs.Shortest.{command-shown}
-use Rattle.pieces.specs.Pieces.{leading}
+use Rattle.commands.specs.Behind.{leading}
 
 one-integer : (vs : List Value) → map partOf vs ≡ single AnInteger ∷ [] → vs ≡ number AnInteger (leading vs) ∷ []
 one-integer [] e = let z : _≡_ {A = ℕ} 0 1 = cc in absurd (omega arith)

@@ -2,32 +2,31 @@
 use Prim.Native.Nat.{ℕ, _+_, _^_, _≤_, _<_}
 use mathlib.Core.Path.{_≡_, refl, sym, _∙_, ap}
 use mathlib.Core.Bool.{Bool, true, false, not, _&&_}
-use mathlib.Core.List.{List, [], _∷_, _++_}
+use mathlib.Core.List.{List}
 use native.Mathlib.Omega.{arith}
 use borrow.Author.Tests.{eq-eqb, ne-eqb, le-ltb, lt-ltb, ltb-true, not-true}
 use lib.Dec.{ltb, eqb}
-use lib.ListN.{length, getD, take}
-use lib.IntN.{ℤ, pos}
+use lib.ListN.{length, getD}
+use lib.IntN.{ℤ}
 use mir.Syntax.{w32}
 use mir.Val.{SFits, toZ, ofZ}
 use mir.Facts.{toZ-ofZ}
 use Rattle.memory.specs.declared.Remembered.{Remembered}
 use Rattle.memory.specs.Memory.{inside}
 use Rattle.refusals.specs.declared.Refusal.{Refusal}
-use Rattle.refusals.proofs.Cases.{and-left, and-right}
-use Rattle.parameters.specs.declared.Parameters.{Parameters}
-use Rattle.parameters.specs.declared.Numbers.{Numbers}
-use Rattle.parameters.specs.Numbers.{numbersOf, noValues, fourOf, Holds}
+use Rattle.refusals.proofs.Cases.{by-pick, and-left, and-right}
 use Rattle.parameters.specs.Shapes.{Value, valuesOf}
 use Rattle.commands.specs.declared.TakenCommand.{TakenCommand}
+use Rattle.commands.specs.Behind.{leading}
 use Rattle.stream.specs.declared.TextItem.{TextItem}
+use Rattle.stream.specs.declared.DelItem.{DelItem}
 use Rattle.stream.specs.declared.RefusedItem.{RefusedItem}
 use Rattle.stream.specs.declared.Item.{Item}
-use Rattle.stream.specs.declared.Item.the-variants.{Nothing, Text}
-use Rattle.stream.specs.Items.{itemOf, itemAt, toldItem}
+use Rattle.stream.specs.declared.Item.the-variants.{Nothing, Text, Del}
+use Rattle.stream.specs.Items.{isFiller, itemOf, itemAt, toldItem}
 use Rattle.pieces.specs.declared.Piece.{Piece}
 use Rattle.pieces.specs.declared.Piece.the-variants.{End, Copied, Called}
-use Rattle.pieces.specs.Pieces.{Pieced, isCall, leading, commandPiece, itemPiece, pieceAt, pieceOf, isText}
+use Rattle.pieces.specs.Pieces.{Pieced, copied, isCall, commandPiece, itemPiece, pieceAt, pieceOf, isByte}
 
 -- ---- a command
 
@@ -55,6 +54,10 @@ module _ (kept : Remembered) (s : List ℕ) (start : ℕ) {r : Item} (er : itemO
   unfolding pieceOf itemPiece itemOf
   text-copied e = said e
 
+  pub del-copied : {d : DelItem} → r ≡ Del d → pieceOf (Copied (d .next) kept) ≡ pieceAt kept s start
+  unfolding pieceOf itemPiece itemOf
+  del-copied e = said e
+
   pub command-told : {t : TakenCommand} (p : Piece) → r ≡ Item.Command t → pieceOf p ≡ commandPiece (t .command .first) (t .command .second) (valuesOf (t .command .parameters)) (t .next) (t .kept) → pieceOf p ≡ pieceAt kept s start
   unfolding pieceOf itemPiece itemOf
   command-told p e j = j ∙ said e
@@ -67,27 +70,27 @@ module _ (kept : Remembered) (s : List ℕ) (start : ℕ) {r : Item} (er : itemO
   unfolding pieceOf itemPiece itemOf
   refused-call e = said e
 
-pub ruleset readings = (none-left, text-copied, command-told, refused-command, refused-call)
+pub ruleset readings = (none-left, text-copied, del-copied, command-told, refused-command, refused-call)
 
--- ---- a text byte
+-- ---- a byte outside commands
 
 module _ (kept : Remembered) (s : List ℕ) (start : ℕ) where
-  pub at-the-end : length s ≤ start → false ≡ isText kept s start
-  unfolding isText
+  pub at-the-end : length s ≤ start → false ≡ isByte kept s start
+  unfolding isByte
   at-the-end h = rw (le-ltb start (length s) h)
 
   module _ (h : start < length s) where
-    pub an-escape : getD s start 0 ≡ 27 → false ≡ isText kept s start
-    unfolding isText
+    pub an-escape : getD s start 0 ≡ 27 → false ≡ isByte kept s start
+    unfolding isByte
     an-escape e = rw (lt-ltb start (length s) h, eq-eqb (getD s start 0) 27 e)
 
-    pub a-byte : (getD s start 0 ≡ 27 → ⊥) → {b : Bool} → b ≡ inside (kept .point) → b ≡ isText kept s start
-    unfolding isText
+    pub a-byte : (getD s start 0 ≡ 27 → ⊥) → {b : Bool} → b ≡ inside (kept .point) → b ≡ isByte kept s start
+    unfolding isByte
     a-byte e j = rw (lt-ltb start (length s) h, ne-eqb (getD s start 0) 27 e) j
 
-  module _ {b : Bool} (eb : b ≡ isText kept s start) (t : b ≡ true) where
+  module _ {b : Bool} (eb : b ≡ isByte kept s start) (t : b ≡ true) where
     tests : (start < length s) × ((eqb (getD s start 0) 27 ≡ false) × (inside (kept .point) ≡ true))
-    unfolding isText
+    unfolding isByte
     tests =
         let e = sym eb ∙ t in
         let more = and-right (ltb start (length s)) (not (eqb (getD s start 0) 27) && inside (kept .point)) e in (
@@ -100,6 +103,8 @@ module _ (kept : Remembered) (s : List ℕ) (start : ℕ) where
 
     pub text-piece : pieceOf (Copied (start + 1) kept) ≡ pieceAt kept s start
     unfolding pieceOf pieceAt itemPiece toldItem itemAt
-    text-piece = rw (le-ltb (length s) start (omega (arith, tests .0)), tests .1 .1, lt-ltb start (length s) (tests .0), tests .1 .0)
+    text-piece =
+        rw (le-ltb (length s) start (omega (arith, tests .0)), tests .1 .1, lt-ltb start (length s) (tests .0), tests .1 .0)
+        (by-pick (λ i. copied (start + 1) kept ≡ itemPiece kept (toldItem i)) (isFiller (kept .mode) (getD s start 0)) _ _ (λ u. refl) (λ u. refl))
 
 pub ruleset texts = (at-the-end, an-escape, a-byte)

@@ -9,7 +9,7 @@ use Rattle.memory.specs.declared.Remembered.{Remembered}
 use Rattle.memory.specs.Memory.{inside}
 use Rattle.refusals.proofs.Cases.{by-pick}
 use Rattle.commands.specs.Reading.{Meaning}
-use Rattle.stream.specs.Items.{Itemed, nothing, text, command, refusedCommand, refusedCall, itemAt, toldItem}
+use Rattle.stream.specs.Items.{Itemed, nothing, text, del, command, refusedCommand, refusedCall, itemAt, toldItem}
 use Rattle.laws.proofs.Partition.{always-read}
 use Rattle.pieces.specs.Pieces.{Pieced, end, copied, called, trouble, isCall, commandPiece, itemPiece, pieceAt}
 
@@ -17,6 +17,7 @@ use Rattle.pieces.specs.Pieces.{Pieced, end, copied, called, trouble, is
 unfoldable pub IsRefusedCommand : Itemed Meaning → Type 0
 IsRefusedCommand nothing = ⊥
 IsRefusedCommand (text b n) = ⊥
+IsRefusedCommand (del n) = ⊥
 IsRefusedCommand (command m) = ⊥
 IsRefusedCommand (refusedCommand e p n k) = Unit {0}
 IsRefusedCommand (refusedCall e p) = ⊥
@@ -31,6 +32,7 @@ refused-command-of : (kept : Remembered) (i : Itemed Meaning) → ((e p : ℕ) �
 unfolding IsRefusedCommand Sound itemPiece toldItem commandPiece
 refused-command-of kept nothing r e = subst Sound e tt
 refused-command-of kept (text b n) r e = subst Sound e tt
+refused-command-of kept (del n) r e = subst Sound e tt
 refused-command-of kept (command m) r e = subst Sound e (by-pick Sound (isCall (m .first) (m .second)) _ _ (λ t. tt) (λ t. tt))
 refused-command-of kept (refusedCommand x p n k) r e = tt
 refused-command-of kept (refusedCall x p) r e = r x p refl

@@ -14,7 +14,7 @@ use Rattle.refusals.specs.Answers.{pick}
 use Rattle.refusals.proofs.Cases.{by-pick}
 use Rattle.parameters.specs.Shapes.{Value}
 use Rattle.commands.specs.Reading.{Meaning}
-use Rattle.stream.specs.Items.{Itemed, nothing, text, command, refusedCommand, refusedCall, itemAt, toldItem}
+use Rattle.stream.specs.Items.{Itemed, nothing, text, del, command, refusedCommand, refusedCall, itemAt, toldItem}
 use Rattle.laws.proofs.Partition.{Ends, item-ends}
 use Rattle.pieces.specs.Pieces.{Pieced, end, copied, called, trouble, isCall, commandPiece, itemPiece, pieceAt}
 
@@ -33,6 +33,7 @@ item-onward : (kept : Remembered) (s : List ℕ) (start : ℕ) (i : Itemed Meani
 unfolding Onward Ends itemPiece toldItem
 item-onward kept s start nothing h = tt
 item-onward kept s start (text b n) h = (omega (arith, h .0), h .1)
+item-onward kept s start (del n) h = (omega (arith, h .0), h .1)
 item-onward kept s start (command m) h = command-onward s start (m .first) (m .second) (m .values) (m .next) (m .kept) (h .0)
 item-onward kept s start (refusedCommand e p n k) h = tt
 item-onward kept s start (refusedCall e p) h = tt
@@ -85,6 +86,7 @@ item-keeps : (kept : Remembered) (s : List ℕ) (start : ℕ) → inside (kept .
 unfolding Keeps Ends itemPiece toldItem
 item-keeps kept s start j nothing h = tt
 item-keeps kept s start j (text b n) h = j
+item-keeps kept s start j (del n) h = j
 item-keeps kept s start j (command m) h = command-keeps (m .first) (m .second) (m .values) (m .next) (m .kept) (h .1)
 item-keeps kept s start j (refusedCommand e p n k) h = tt
 item-keeps kept s start j (refusedCall e p) h = tt

@@ -2,16 +2,15 @@
 // into is lent here, so that it does not stand in the frames of an expansion.
 ghost use mathlib.Core.Path.{_≡_};
 ghost use Rattle.parameters.specs.Shapes.{valuesOf};
-ghost use Rattle.pieces.specs.Pieces.{isCall, leading, commandPiece, isText, pieceAt, pieceOf};
+ghost use Rattle.pieces.specs.Pieces.{isCall, commandPiece, isByte, pieceAt, pieceOf};
 use commands::TakenCommand;
 use memory::Remembered;
-use parameters::Parameters;
 use stream::Item;
 
 pub enum Piece {
     // no item is left
     End,
-    // text, or any command but KX: where the next item starts, and what is then remembered
+    // text, a DEL, or any command but KX: where the next item starts, and what is then remembered
     Copied(usize, Remembered),
     // KX: its number, where the next item starts, and what is then remembered
     Called(i32, usize, Remembered),
@@ -29,15 +28,6 @@ fn is_call(first: u8, second: u8) -> bool
     false
 }
 
-// The first number of a command; the parameters of KX are one integer.
-fn leading_number(parameters: Parameters) -> i32
-    ensures { λ r. ⌜ r ≡ leading (valuesOf parameters) ⌝ }
-{
-    let numbers = parameters::numbers_of(parameters);
-    let values = numbers.values;
-    values[0]
-}
-
 fn command_piece(taken: TakenCommand) -> Piece
     ensures { λ r. ⌜ pieceOf r ≡ commandPiece (taken .command .first) (taken .command .second) (valuesOf (taken .command .parameters)) (taken .next) (taken .kept) ⌝ }
 {
@@ -46,7 +36,7 @@ fn command_piece(taken: TakenCommand) -> Piece
     let after = taken.kept;
     if is_call(command.first, command.second) {
         let parameters = command.parameters;
-        let number = leading_number(parameters);
+        let number = commands::leading_number(parameters);
         return Piece::Called(number, next, after);
     }
     Piece::Copied(next, after)
@@ -60,15 +50,16 @@ fn piece_of_item(kept: Remembered, body: &[u8], start: usize) -> Piece
     match stream::read_item(kept, body, start, &mut list) {
         Item::Nothing => Piece::End,
         Item::Text(text) => Piece::Copied(text.next, kept),
+        Item::Del(del) => Piece::Copied(del.next, kept),
         Item::Command(taken) => command_piece(taken),
         Item::RefusedCommand(_) => Piece::Refused,
         Item::Refused(_, _) => Piece::Refused,
     }
 }
 
-// "Outside commands each byte but 27 is a text item": whether one starts at `start`, from a remembered point inside.
-fn is_text(kept: Remembered, body: &[u8], start: usize) -> bool
-    ensures { λ r. ⌜ r ≡ isText kept (now (body .entry)) start ⌝ }
+// "Outside commands each byte but 27 is a text item", or a DEL: whether one starts at `start`, from a remembered point inside.
+fn is_byte(kept: Remembered, body: &[u8], start: usize) -> bool
+    ensures { λ r. ⌜ r ≡ isByte kept (now (body .entry)) start ⌝ }
 {
     if start >= body.len() {
         return false;
@@ -80,11 +71,11 @@ fn is_text(kept: Remembered, body: &[u8], start: usize) -> bool
     memory::is_inside(point)
 }
 
-// The piece of a body that starts at `start`. No list is made for a text byte.
+// The piece of a body that starts at `start`. No list is made for a byte outside commands.
 pub fn piece_at(kept: Remembered, body: &[u8], start: usize) -> Piece
     ensures { λ r. ⌜ pieceOf r ≡ pieceAt kept (now (body .entry)) start ⌝ }
 {
-    if is_text(kept, body, start) {
+    if is_byte(kept, body, start) {
         let next = start + 1;
         return Piece::Copied(next, kept);
     }

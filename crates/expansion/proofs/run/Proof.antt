@@ -3,9 +3,6 @@ use borrow.Author.Needs.{needs}
 use Rattle.expansion.proofs.run.Statement.{statement}
 use Rattle.expansion.proofs.run.Tie as tie
 
-fresh-requires : tie.Need-fresh-requires
-fresh-requires c κs = search needs
-
 enter-requires : tie.Need-enter-requires
 enter-requires c κs = search needs
 
@@ -16,4 +13,4 @@ returns : tie.Need-returns
 returns c = search (needs, ran-start)
 
 pub run-spec : {M : Type 1} → statement M
-run-spec = tie.close (tie.spec fresh-requires enter-requires same-length returns)
+run-spec = tie.close (tie.spec enter-requires same-length returns)

@@ -3,8 +3,8 @@ use borrow.Author.Needs.{needs}
 use Rattle.pieces.proofs.piece_at.Statement.{statement}
 use Rattle.pieces.proofs.piece_at.Tie as tie
 
-is-text-requires : tie.Need-is-text-requires
-is-text-requires c κs = search needs
+is-byte-requires : tie.Need-is-byte-requires
+is-byte-requires c κs = search needs
 
 add-next : tie.Need-add-next
 add-next c = search (needs, text-counts)
@@ -20,4 +20,4 @@ returns-2 c = search needs
 
 pub piece-at-spec : {M : Type 1} → statement M
 piece-at-spec =
-    tie.close (tie.spec is-text-requires add-next returns piece-of-item-requires returns-2)
+    tie.close (tie.spec is-byte-requires add-next returns piece-of-item-requires returns-2)

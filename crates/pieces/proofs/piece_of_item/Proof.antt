@@ -15,6 +15,9 @@ enum-told c = search needs
 enum-known-text : tie.Need-enum-known-text
 enum-known-text c = search needs
 
+enum-known-del : tie.Need-enum-known-del
+enum-known-del c = search needs
+
 enum-known-taken : tie.Need-enum-known-taken
 enum-known-taken c = search needs
 
@@ -42,6 +45,9 @@ returns-4 c = search (needs, readings)
 returns-5 : tie.Need-returns-5
 returns-5 c = search (needs, readings)
 
+returns-6 : tie.Need-returns-6
+returns-6 c = search (needs, readings)
+
 pub piece-of-item-spec : {M : Type 1} → statement M
 piece-of-item-spec =
     tie.close
@@ -50,6 +56,7 @@ piece-of-item-spec =
     read-item-requires
     enum-told
     enum-known-text
+    enum-known-del
     enum-known-taken
     command-piece-requires
     enum-told-2
@@ -58,4 +65,5 @@ piece-of-item-spec =
     returns-2
     returns-3
     returns-4
-    returns-5)
+    returns-5
+    returns-6)

@@ -1,7 +1,7 @@
 use Rattle.pieces.proofs.Reading.{texts}
 use borrow.Author.Needs.{needs}
-use Rattle.pieces.proofs.is_text.Statement.{statement}
-use Rattle.pieces.proofs.is_text.Tie as tie
+use Rattle.pieces.proofs.is_byte.Statement.{statement}
+use Rattle.pieces.proofs.is_byte.Tie as tie
 
 returns : tie.Need-returns
 returns c = search (needs, texts)
@@ -18,6 +18,6 @@ is-inside-requires c κs = search needs
 returns-3 : tie.Need-returns-3
 returns-3 c = search (needs, texts)
 
-pub is-text-spec : {M : Type 1} → statement M
-is-text-spec =
+pub is-byte-spec : {M : Type 1} → statement M
+is-byte-spec =
     tie.close (tie.spec returns shared-slice-read-if2 returns-2 is-inside-requires returns-3)
