@@ -21,13 +21,14 @@ use Rattle.parameters.specs.Numbers.{numbersOf, Holds}
 use Rattle.commands.specs.declared.TakenCommand.{TakenCommand}
 use Rattle.commands.specs.Reading.{tellTaken}
 use Rattle.stream.specs.declared.TextItem.{TextItem}
+use Rattle.stream.specs.declared.DelItem.{DelItem}
 use Rattle.stream.specs.declared.RefusedItem.{RefusedItem}
 use Rattle.stream.specs.declared.Item.{Item}
-use Rattle.stream.specs.declared.Item.the-variants.{Nothing, Text}
+use Rattle.stream.specs.declared.Item.the-variants.{Nothing, Text, Del}
 use Rattle.stream.specs.Items.{itemOf}
 use Rattle.lines.specs.Decimals.{field, fields}
 use Rattle.lines.specs.Pouring.{Put}
-use Rattle.lines.specs.Lines.{listed, opening, textLine, letters, commandHead, parametersWords, commandLine, pair, refusedLine, lineOf, lastLetter, lastLine}
+use Rattle.lines.specs.Lines.{listed, opening, textLine, delLine, letters, commandHead, parametersWords, commandLine, pair, refusedLine, lineOf, lastLetter, lastLine}
 use Rattle.lines.proofs.Pours.{poured-none, poured-both, poured-long}
 
 -- ---- parts of lists
@@ -68,6 +69,10 @@ module _ {l o : List ℕ} {at n : ℕ} where
   pub text-poured : (start b : ℕ) {l₁ l₂ : List ℕ} {i j : ℕ} → Put l₂ j (10 ∷ []) n o → Put l₁ i (field (pos b)) j l₂ → Put l at (opening 84 start) i l₁ → Put l at (textLine start b) n o
   unfolding textLine
   text-poured s v c b a = poured-both c (poured-both b a)
+
+  pub del-poured : (start : ℕ) {l₁ : List ℕ} {i : ℕ} → Put l₁ i (10 ∷ []) n o → Put l at (opening 68 start) i l₁ → Put l at (delLine start) n o
+  unfolding delLine
+  del-poured start b a = poured-both b a
 
   pub letters-poured : {x y : ℕ} {l₁ l₂ : List ℕ} {i j : ℕ} → Put l₂ j (y ∷ []) n o → Put l₁ i (x ∷ []) j l₂ → Put l at (32 ∷ []) i l₁ → Put l at (letters x y) n o
   unfolding letters
@@ -113,6 +118,10 @@ module _ (it : Item) (start : ℕ) (list : List ℤ) where
     unfolding lineOf itemOf
     line-text g h = rw g h
 
+    pub line-del : {d : DelItem} → it ≡ Del d → Put l at (delLine start) n o → Put l at (lineOf (itemOf it) start list) n o
+    unfolding lineOf itemOf
+    line-del g h = rw g h
+
     pub line-command : {t : TakenCommand} → it ≡ Item.Command t → Put l at (commandLine (tellTaken t) start list) n o → Put l at (lineOf (itemOf it) start list) n o
     unfolding lineOf itemOf
     line-command g h = rw g h
@@ -121,4 +130,4 @@ module _ (it : Item) (start : ℕ) (list : List ℤ) where
     unfolding lineOf itemOf
     line-refused-command g e h = rw (g, ← e) h
 
-pub ruleset items = (line-nothing, line-refused-call, line-text, line-command, line-refused-command, poured-long)
+pub ruleset items = (line-nothing, line-refused-call, line-text, line-del, line-command, line-refused-command, poured-long)

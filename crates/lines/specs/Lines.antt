@@ -8,7 +8,7 @@ use lib.IntN.{ℤ, pos}
 use Rattle.parameters.specs.Shapes.{Tailed, noList, listOf, Value}
 use Rattle.parameters.specs.Numbers.{numbersOf}
 use Rattle.commands.specs.Reading.{ToldCommand}
-use Rattle.stream.specs.Items.{Itemed, nothing, text, command, refusedCommand, refusedCall}
+use Rattle.stream.specs.Items.{Itemed, nothing, text, del, command, refusedCommand, refusedCall}
 use Rattle.lines.specs.Decimals.{field, fields}
 
 -- the count and the entries, where the parameters have any
@@ -25,6 +25,10 @@ opening letter start = (letter ∷ []) ++ field (pos start)
 
 unfoldable pub textLine : (start byte : ℕ) → List ℕ
 textLine start b = opening 84 start ++ field (pos b) ++ newline
+
+-- "The lister prints a DEL that is an item as D and its place."
+unfoldable pub delLine : (start : ℕ) → List ℕ
+delLine start = opening 68 start ++ newline
 
 unfoldable pub letters : (first second : ℕ) → List ℕ
 letters a b = (32 ∷ []) ++ (a ∷ []) ++ (b ∷ [])
@@ -49,6 +53,7 @@ refusedLine start e p = opening 82 start ++ pair e p ++ newline
 unfoldable pub lineOf : Itemed ToldCommand → ℕ → List ℤ → List ℕ
 lineOf nothing start list = []
 lineOf (text b n) start list = textLine start b
+lineOf (del n) start list = delLine start
 lineOf (command c) start list = commandLine c start list
 lineOf (refusedCommand e p n kept) start list = refusedLine start e p
 lineOf (refusedCall e p) start list = []

@@ -9,7 +9,7 @@ ghost use Rattle.commands.specs.Reading.{tellTaken};
 ghost use Rattle.stream.specs.Items.{itemOf};
 ghost use Rattle.lines.specs.Decimals.{decimal, field, fields};
 ghost use Rattle.lines.specs.Pouring.{Put};
-ghost use Rattle.lines.specs.Lines.{listed, opening, textLine, letters, commandHead, parametersWords, commandLine, pair, refusedLine, lineOf, lastLetter, lastLine};
+ghost use Rattle.lines.specs.Lines.{listed, opening, textLine, delLine, letters, commandHead, parametersWords, commandLine, pair, refusedLine, lineOf, lastLetter, lastLine};
 use commands::TakenCommand;
 use parameters::Parameters;
 use parameters::Tail;
@@ -148,6 +148,13 @@ fn put_text(start: usize, b: u8, out: &mut [u8], at: usize) -> usize
     put(b'\n', out, two)
 }
 
+fn put_del(start: usize, out: &mut [u8], at: usize) -> usize
+    ensures { λ r. ⌜ Put (now (out .entry)) at (delLine start) r (now (out .exit)) ⌝ }
+{
+    let next = put_opening(b'D', start, out, at);
+    put(b'\n', out, next)
+}
+
 // A blank and the two op letters.
 fn put_letters(first: u8, second: u8, out: &mut [u8], at: usize) -> usize
     ensures { λ r. ⌜ Put (now (out .entry)) at (letters first second) r (now (out .exit)) ⌝ }
@@ -196,6 +203,7 @@ pub fn put_line(item: Item, start: usize, list: &[i32], out: &mut [u8], at: usiz
     match item {
         Item::Nothing => at,
         Item::Text(text) => put_text(start, text.byte, out, at),
+        Item::Del(_) => put_del(start, out, at),
         Item::Command(taken) => put_command(taken, start, list, out, at),
         Item::RefusedCommand(refused) => {
             let refusal = refused.refusal;

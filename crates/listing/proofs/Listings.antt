@@ -20,9 +20,10 @@ use Rattle.wire.specs.Sending.{writtenOf, roomFor, writeAt, afterWrite}
 use Rattle.commands.specs.declared.TakenCommand.{TakenCommand}
 use Rattle.commands.specs.Reading.{ToldCommand}
 use Rattle.stream.specs.declared.TextItem.{TextItem}
+use Rattle.stream.specs.declared.DelItem.{DelItem}
 use Rattle.stream.specs.declared.RefusedItem.{RefusedItem}
 use Rattle.stream.specs.declared.Item.{Item}
-use Rattle.stream.specs.declared.Item.the-variants.{Nothing, Text}
+use Rattle.stream.specs.declared.Item.the-variants.{Nothing, Text, Del}
 use Rattle.stream.specs.Items.{Itemed, itemAt, toldItem, itemOf, afterItem, nextStart, nextKept}
 use Rattle.lines.specs.Pouring.{far, behind, Put}
 use Rattle.lines.specs.Lines.{lineOf, lastLine}
@@ -90,6 +91,10 @@ module _ (it : Item) (start : ℕ) where
   unfolding nextStart itemOf
   start-text g = rw g
 
+  pub start-del : {d : DelItem} → it ≡ Del d → d .next ≡ nextStart start (itemOf it)
+  unfolding nextStart itemOf
+  start-del g = rw g
+
   pub start-command : {t : TakenCommand} → it ≡ Item.Command t → t .next ≡ nextStart start (itemOf it)
   unfolding nextStart itemOf
   start-command g = rw g
@@ -102,7 +107,7 @@ module _ (it : Item) (start : ℕ) where
   unfolding nextStart itemOf
   start-no-item g = rw g
 
-pub ruleset starts = (start-nothing, start-text, start-command, start-refused, start-no-item)
+pub ruleset starts = (start-nothing, start-text, start-del, start-command, start-refused, start-no-item)
 
 module _ (it : Item) (kept : Remembered) where
   pub kept-nothing : it ≡ Nothing → kept ≡ nextKept kept (itemOf it)
@@ -112,6 +117,10 @@ module _ (it : Item) (kept : Remembered) where
   pub kept-text : {t : TextItem} → it ≡ Text t → kept ≡ nextKept kept (itemOf it)
   unfolding nextKept itemOf
   kept-text g = rw g
+
+  pub kept-del : {d : DelItem} → it ≡ Del d → kept ≡ nextKept kept (itemOf it)
+  unfolding nextKept itemOf
+  kept-del g = rw g
 
   pub kept-command : {t : TakenCommand} → it ≡ Item.Command t → t .kept ≡ nextKept kept (itemOf it)
   unfolding nextKept itemOf
@@ -125,7 +134,7 @@ module _ (it : Item) (kept : Remembered) where
   unfolding nextKept itemOf
   kept-no-item g = rw g
 
-pub ruleset kepts = (kept-nothing, kept-text, kept-command, kept-refused, kept-no-item)
+pub ruleset kepts = (kept-nothing, kept-text, kept-del, kept-command, kept-refused, kept-no-item)
 
 -- ---- the last line
 

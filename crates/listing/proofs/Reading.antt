@@ -19,7 +19,7 @@ use Rattle.parameters.specs.Shapes.{Tailed, noList, listOf, Shape, shapeOf}
 use Rattle.parameters.specs.Looking.{fixedAt, tailAt, Parsed, parametersAt, entryIn, parsedEntries}
 use Rattle.parameters.proofs.Entering.{all-read, front-is}
 use Rattle.commands.specs.Reading.{Meaning, headAt, bodyAt, commandAt}
-use Rattle.stream.specs.Items.{Itemed, nothing, text, command, refusedCommand, refusedCall, asItem, commandItem, itemAt, toldItem, afterItem}
+use Rattle.stream.specs.Items.{Itemed, nothing, text, del, command, refusedCommand, refusedCall, isFiller, asItem, commandItem, itemAt, toldItem, afterItem}
 use Rattle.lines.specs.Decimals.{field, fields}
 use Rattle.lines.specs.Lines.{listed, parametersWords, commandLine, lineOf}
 use Rattle.listing.specs.Listing.{entriesOf}
@@ -56,6 +56,7 @@ parsed-counted kept shape s at =
 unfoldable pub Held : ℕ → Itemed Meaning → Type 0
 Held room nothing = Unit {0}
 Held room (text b n) = Unit {0}
+Held room (del n) = Unit {0}
 Held room (command m) = (length (m .entries) ≡ m .count) × (m .count ≤ room)
 Held room (refusedCommand e p n kept) = Unit {0}
 Held room (refusedCall e p) = Unit {0}
@@ -68,10 +69,10 @@ module _ (kept : Remembered) (s : List ℕ) (start room : ℕ) where
   unfolding commandAt bodyAt
   command-held =
       by-pick (Done Whole) (ltb start (length s)) _ _
-      (λ t. by-then (Done Whole) (headAt s (start + 1)) _
-      (λ h g. by-then (Done Whole) (parametersAt kept (shapeOf (h .kind)) s (start + 3)) _
+      (λ t. by-then (Done Whole) (headAt (kept .mode) s (start + 1)) _
+      (λ h g. by-then (Done Whole) (parametersAt kept (shapeOf (h .kind)) s (h .next)) _
       (λ p q. by-pick (Done Whole) (leb (p .count) room) _ _
-      (λ u. is-done Whole (done-of (Counted s) (parsed-counted kept (shapeOf (h .kind)) s (start + 3)) q, leb-true (p .count) room u))
+      (λ u. is-done Whole (done-of (Counted s) (parsed-counted kept (shapeOf (h .kind)) s (h .next)) q, leb-true (p .count) room u))
       (λ u. not-done Whole 7 start))
       (λ x p q. not-done Whole x p))
       (λ x p g. not-done Whole x p))
@@ -89,7 +90,9 @@ module _ (kept : Remembered) (s : List ℕ) (start room : ℕ) where
       (λ t. tt)
       (λ t. by-pick (Held room) (inside (kept .point)) _ _
       (λ u. by-pick (Held room) (ltb start (length s)) _ _
-      (λ v. by-pick (Held room) (eqb (getD s start 0) 27) _ _ (λ w. answer-held (commandAt kept s start room) refl) (λ w. tt))
+      (λ v. by-pick (Held room) (eqb (getD s start 0) 27) _ _
+      (λ w. answer-held (commandAt kept s start room) refl)
+      (λ w. by-pick (Held room) (isFiller (kept .mode) (getD s start 0)) _ _ (λ x. tt) (λ x. tt)))
       (λ v. tt))
       (λ u. tt))
 
@@ -106,6 +109,7 @@ pub line-read : (list : List ℤ) (start : ℕ) (i : Itemed Meaning) → Held (l
 unfolding Held lineOf toldItem afterItem entriesOf commandLine parametersWords
 line-read list start nothing h = refl
 line-read list start (text b n) h = refl
+line-read list start (del n) h = refl
 line-read list start (command m) h = rw (listed-same (m .tail) (m .count) (m .entries) list (h .0) (h .1))
 line-read list start (refusedCommand e p n kept) h = refl
 line-read list start (refusedCall e p) h = refl

@@ -11,13 +11,14 @@ use Rattle.memory.specs.Memory.{freshMemory}
 use Rattle.refusals.specs.Answers.{pick}
 use Rattle.ranges.specs.Ranges.{mostEntries}
 use Rattle.commands.specs.Reading.{Meaning, ToldCommand}
-use Rattle.stream.specs.Items.{Itemed, nothing, text, command, refusedCommand, refusedCall, itemAt, toldItem, nextStart, nextKept}
+use Rattle.stream.specs.Items.{Itemed, nothing, text, del, command, refusedCommand, refusedCall, itemAt, toldItem, nextStart, nextKept}
 use Rattle.lines.specs.Lines.{lineOf, lastLine}
 
 -- the entries that were read with an item
 unfoldable pub entriesOf : Itemed Meaning → List ℤ
 entriesOf nothing = []
 entriesOf (text b n) = []
+entriesOf (del n) = []
 entriesOf (command m) = m .entries
 entriesOf (refusedCommand e p n before) = []
 entriesOf (refusedCall e p) = []

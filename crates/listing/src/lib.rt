@@ -21,6 +21,7 @@ fn next_start(item: Item, start: usize) -> usize
     match item {
         Item::Nothing => start,
         Item::Text(text) => text.next,
+        Item::Del(del) => del.next,
         Item::Command(taken) => taken.next,
         Item::RefusedCommand(refused) => refused.next,
         Item::Refused(_, _) => start,
@@ -34,6 +35,7 @@ fn next_kept(item: Item, kept: Remembered) -> Remembered
     match item {
         Item::Nothing => kept,
         Item::Text(_) => kept,
+        Item::Del(_) => kept,
         Item::Command(taken) => taken.kept,
         Item::RefusedCommand(refused) => refused.kept,
         Item::Refused(_, _) => kept,

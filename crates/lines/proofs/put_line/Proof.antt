@@ -12,6 +12,12 @@ enum-known-item c = search needs
 put-text-requires : tie.Need-put-text-requires
 put-text-requires c κs = search needs
 
+enum-told-2 : tie.Need-enum-told-2
+enum-told-2 c = search needs
+
+put-del-requires : tie.Need-put-del-requires
+put-del-requires c κs = search needs
+
 enum-known-item-2 : tie.Need-enum-known-item-2
 enum-known-item-2 c = search needs
 
@@ -30,8 +36,8 @@ cast-number c = search needs
 put-refused-requires : tie.Need-put-refused-requires
 put-refused-requires c κs = search needs
 
-enum-told-2 : tie.Need-enum-told-2
-enum-told-2 c = search needs
+enum-told-3 : tie.Need-enum-told-3
+enum-told-3 c = search needs
 
 returns : tie.Need-returns
 returns c = search (needs, items)
@@ -54,8 +60,14 @@ same-length-3 c = search needs
 returns-4 : tie.Need-returns-4
 returns-4 c = search (needs, items)
 
+same-length-4 : tie.Need-same-length-4
+same-length-4 c = search needs
+
 returns-5 : tie.Need-returns-5
 returns-5 c = search (needs, items)
+
+returns-6 : tie.Need-returns-6
+returns-6 c = search (needs, items)
 
 pub put-line-spec : {M : Type 1} → statement M
 put-line-spec =
@@ -64,13 +76,15 @@ put-line-spec =
     enum-told
     enum-known-item
     put-text-requires
+    enum-told-2
+    put-del-requires
     enum-known-item-2
     put-command-requires
     enum-known-item-3
     number-requires
     cast-number
     put-refused-requires
-    enum-told-2
+    enum-told-3
     returns
     same-length
     returns-2
@@ -78,4 +92,6 @@ put-line-spec =
     returns-3
     same-length-3
     returns-4
-    returns-5)
+    same-length-4
+    returns-5
+    returns-6)

@@ -15,6 +15,9 @@ enum-known-item-2 c = search needs
 enum-known-item-3 : tie.Need-enum-known-item-3
 enum-known-item-3 c = search needs
 
+enum-known-item-4 : tie.Need-enum-known-item-4
+enum-known-item-4 c = search needs
+
 enum-told-2 : tie.Need-enum-told-2
 enum-told-2 c = search needs
 
@@ -33,6 +36,9 @@ returns-4 c = search (needs, starts)
 returns-5 : tie.Need-returns-5
 returns-5 c = search (needs, starts)
 
+returns-6 : tie.Need-returns-6
+returns-6 c = search (needs, starts)
+
 pub next-start-spec : {M : Type 1} → statement M
 next-start-spec =
     tie.close
@@ -41,9 +47,11 @@ next-start-spec =
     enum-known-item
     enum-known-item-2
     enum-known-item-3
+    enum-known-item-4
     enum-told-2
     returns
     returns-2
     returns-3
     returns-4
-    returns-5)
+    returns-5
+    returns-6)
