@@ -25,34 +25,8 @@ use Rattle.stream.specs.declared.RefusedItem.{RefusedItem}
 use Rattle.stream.specs.declared.Item.{Item}
 use Rattle.stream.specs.declared.Item.the-variants.{Nothing, Text, Del}
 use Rattle.stream.specs.Items.{itemOf, itemAt, toldItem, afterItem}
-use Rattle.stream_calls.specs.Slots.{modeNumber, slotsOf, pointIn, noMode, keptIn, itemNumber, kindSlot, commandFields, itemFields, itemValues, rememberedAfter, NextItem}
-
--- ---- what is remembered, by the tests of the mode's number
-
-module _ (l : List ℕ) where
-  pub data-kept : getD l 2 0 ≡ 0 → pointIn l Data ≡ keptIn l
-  unfolding keptIn
-  data-kept e = rw e
-
-  pub filler-kept : getD l 2 0 ≡ 1 → pointIn l Filler ≡ keptIn l
-  unfolding keptIn
-  filler-kept e = rw e
-
-  pub no-mode-kept : (getD l 2 0 ≡ 0 → ⊥) → (getD l 2 0 ≡ 1 → ⊥) → noMode ≡ keptIn l
-  unfolding keptIn
-  no-mode-kept z o = rw (ne-eqb (getD l 2 0) 0 z, ne-eqb (getD l 2 0) 1 o)
-
-pub data-number : {m : DelMode} → m ≡ Data → 0 ≡ modeNumber m
-unfolding modeNumber
-data-number e = rw e
-
-pub filler-number : {m : DelMode} → m ≡ Filler → 1 ≡ modeNumber m
-unfolding modeNumber
-filler-number e = rw e
-
-pub three-slots : (kept : Remembered) {n : ℕ} → n ≡ modeNumber (kept .mode) → kept .point .x ∷ kept .point .y ∷ n ∷ [] ≡ slotsOf kept
-unfolding slotsOf
-three-slots kept e = rw e
+use Rattle.coordinates.specs.Remembering.{slotsOf, keptIn}
+use Rattle.stream_calls.specs.Slots.{itemNumber, kindSlot, commandFields, itemFields, itemValues, rememberedAfter, NextItem}
 
 -- ---- a command's kind
 

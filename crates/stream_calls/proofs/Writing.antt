@@ -35,7 +35,7 @@ use Rattle.commands.specs.declared.Command.{Command}
 use Rattle.commands.specs.Behind.{leading, afterLetters}
 use Rattle.writable.specs.Writable.{kindFor, kindNumber, isKind, isCommand}
 use Rattle.writing.specs.Writing.{spellCommand, writeFitting, writeCommand}
-use Rattle.stream_calls.specs.Slots.{keptIn, slotsOf}
+use Rattle.coordinates.specs.Remembering.{slotsOf, keptIn}
 use Rattle.stream_calls.specs.Given.{ofKind, ofTabled, commandGiven, keptBehind, keptAfter, slotsAfter, Writes, WrittenCommand}
 use Rattle.stream_calls.specs.declared.Sent.{Sent}
 

@@ -17,7 +17,7 @@ use Rattle.commands.specs.Behind.{afterCommand}
 use Rattle.writing.specs.Writing.{spellCommand, writeCommand}
 use Rattle.wire.specs.Sending.{writtenOf, afterWrite}
 use Rattle.stream_calls.specs.declared.Sent.{Sent}
-use Rattle.stream_calls.specs.Slots.{keptIn, slotsOf}
+use Rattle.coordinates.specs.Remembering.{slotsOf, keptIn}
 
 abbrev at : List ℤ → ℕ → ℤ
 at vs i = getD vs i (pos 0)

@@ -8,12 +8,10 @@ ghost use Rattle.parameters.specs.Behind.{afterValues};
 ghost use Rattle.writable.specs.Writable.{kindFor, kindNumber};
 ghost use Rattle.writing.specs.Writing.{writeFitting, writeCommand};
 ghost use Rattle.table.specs.Table.{kindMeant};
-ghost use Rattle.stream_calls.specs.Slots.{keptIn, modeNumber, slotsOf, commandFields, NextItem};
+ghost use Rattle.stream_calls.specs.Slots.{commandFields, NextItem};
 ghost use Rattle.stream_calls.specs.Given.{ofKind, commandGiven, keptBehind, Writes, WrittenCommand};
 use commands::Command;
 use commands::TakenCommand;
-use memory::DelMode;
-use memory::Point;
 use memory::Remembered;
 use parameters::Parameters;
 use parameters::Real;
@@ -25,58 +23,6 @@ use wire::Written;
 
 // "0 means done"
 const DONE: u8 = 0;
-
-// ---- what is remembered
-
-// A coordinate outside 0..4095. A mode that is neither 0 nor 1 stands for a point there, so that each call refuses it with 8, "value out of range".
-const OUTSIDE: u16 = 4096;
-
-fn kept_in(remembered: &[u16; 3]) -> Remembered
-    ensures { λ r. ⌜ r ≡ keptIn (now (remembered .entry)) ⌝ }
-{
-    let x = remembered[0];
-    let y = remembered[1];
-    let number = remembered[2];
-    let last = Point { x: x, y: y };
-    if number == 0 {
-        return Remembered {
-            point: last,
-            mode: DelMode::Data,
-        };
-    }
-    if number == 1 {
-        return Remembered {
-            point: last,
-            mode: DelMode::Filler,
-        };
-    }
-    let nowhere = Point {
-        x: OUTSIDE,
-        y: OUTSIDE,
-    };
-    Remembered {
-        point: nowhere,
-        mode: DelMode::Data,
-    }
-}
-
-fn mode_number(mode: DelMode) -> u16
-    ensures { λ r. ⌜ r ≡ modeNumber mode ⌝ }
-{
-    match mode {
-        DelMode::Data => 0,
-        DelMode::Filler => 1,
-    }
-}
-
-fn slots_of(kept: Remembered) -> [u16; 3]
-    ensures { λ r. ⌜ r ≡ slotsOf kept ⌝ }
-{
-    let point = kept.point;
-    let mode = kept.mode;
-    let number = mode_number(mode);
-    [point.x, point.y, number]
-}
 
 // ---- the next item
 
@@ -119,7 +65,7 @@ pub extern "C" fn ardh_next_item(
 ) -> u8
     ensures { λ r. ⌜ NextItem (now (remembered .entry)) (now (bytes .entry)) start (now (list .entry)) r (now (item .exit)) (now (values .exit)) (now (remembered .exit)) (now (list .exit)) ⌝ }
 {
-    let kept = kept_in(remembered);
+    let kept = coordinates::kept_in(remembered);
     match stream::read_item(kept, bytes, start, list) {
         Item::Nothing => {
             *item = [0, 0, 0, 0, 0, 0, 0];
@@ -142,7 +88,7 @@ pub extern "C" fn ardh_next_item(
             let after = taken.kept;
             *item = command_fields(taken);
             *values = four_of(parameters);
-            *remembered = slots_of(after);
+            *remembered = coordinates::slots_of(after);
             DONE
         }
         Item::RefusedCommand(refused) => {
@@ -288,13 +234,13 @@ pub extern "C" fn ardh_write_command(
 ) -> u8
     ensures { λ r. ⌜ WrittenCommand (now (remembered .entry)) (commandGiven first second (now (values .entry))) (now (list .entry)) (now (out .entry)) r (now (written .exit)) (now (remembered .exit)) (now (out .exit)) ⌝ }
 {
-    let kept = kept_in(remembered);
+    let kept = coordinates::kept_in(remembered);
     let sent = write_given(kept, first, second, values, list, out);
     let behind = sent.kept;
     let answer = sent.answer;
     match answer {
         Written::Next(n) => {
-            *remembered = slots_of(behind);
+            *remembered = coordinates::slots_of(behind);
             *written = n;
             DONE
         }

@@ -1,7 +1,7 @@
-use Rattle.stream_calls.proofs.Items.{data-kept, filler-kept, no-mode-kept}
+use Rattle.coordinates.proofs.Slots.{data-kept, filler-kept, no-mode-kept}
 use borrow.Author.Needs.{needs}
-use Rattle.stream_calls.proofs.kept_in.Statement.{statement}
-use Rattle.stream_calls.proofs.kept_in.Tie as tie
+use Rattle.coordinates.proofs.kept_in.Statement.{statement}
+use Rattle.coordinates.proofs.kept_in.Tie as tie
 
 element-copy-out-x : tie.Need-element-copy-out-x
 element-copy-out-x c = search needs

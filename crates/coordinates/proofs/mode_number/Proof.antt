@@ -1,7 +1,7 @@
-use Rattle.stream_calls.proofs.Items.{data-number, filler-number}
+use Rattle.coordinates.proofs.Slots.{data-number, filler-number}
 use borrow.Author.Needs.{needs}
-use Rattle.stream_calls.proofs.mode_number.Statement.{statement}
-use Rattle.stream_calls.proofs.mode_number.Tie as tie
+use Rattle.coordinates.proofs.mode_number.Statement.{statement}
+use Rattle.coordinates.proofs.mode_number.Tie as tie
 
 enum-told : tie.Need-enum-told
 enum-told c = search needs

@@ -1,7 +1,7 @@
-use Rattle.stream_calls.proofs.Items.{three-slots}
+use Rattle.coordinates.proofs.Slots.{three-slots}
 use borrow.Author.Needs.{needs}
-use Rattle.stream_calls.proofs.slots_of.Statement.{statement}
-use Rattle.stream_calls.proofs.slots_of.Tie as tie
+use Rattle.coordinates.proofs.slots_of.Statement.{statement}
+use Rattle.coordinates.proofs.slots_of.Tie as tie
 
 mode-number-requires : tie.Need-mode-number-requires
 mode-number-requires c κs = search needs
