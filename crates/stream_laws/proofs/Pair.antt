@@ -21,10 +21,11 @@ use Rattle.parameters.specs.Shapes.{place, valuesOf, tailOf}
 use Rattle.parameters.specs.Numbers.{numbersOf, fourOf}
 use Rattle.commands.specs.declared.Command.{Command}
 use Rattle.writable.specs.Writable.{isKind, isValue, areValues, isTail, fits, isCommand}
-use Rattle.writing.specs.Writing.{afterValues, spellCommand, writeCommand}
-use Rattle.stream.specs.Items.{Itemed, command, itemAt, toldItem, afterItem, nextKept}
-use Rattle.stream_calls.specs.Slots.{keptIn, twoOf, itemNumber, itemFields, itemValues, kindSlot, commandFields, NextItem}
-use Rattle.stream_calls.specs.Given.{ofKind, ofTabled, commandGiven, keptAfter, WrittenCommand}
+use Rattle.writing.specs.Writing.{spellCommand, writeCommand}
+use Rattle.stream.specs.Items.{Itemed, command, itemAt, toldItem, afterItem}
+use Rattle.coordinates.specs.Remembering.{slotsOf, keptIn}
+use Rattle.stream_calls.specs.Slots.{itemNumber, itemFields, itemValues, kindSlot, commandFields, rememberedAfter, NextItem}
+use Rattle.stream_calls.specs.Given.{ofKind, ofTabled, commandGiven, keptBehind, slotsAfter, WrittenCommand}
 use Rattle.laws.specs.Laws.{carried, Back, given}
 use Rattle.laws.proofs.Items.{Wrote, wrote, item-back}
 use Rattle.stream_laws.specs.Pair.{taken, ReadBack}
@@ -90,23 +91,23 @@ accepted ok w room =
 
 -- ---- the two calls
 
-module _ (point : List ℕ) (first second : ℕ) (vs es : List ℤ) (out : List ℕ) where
+module _ (remembered : List ℕ) (first second : ℕ) (vs es : List ℤ) (out : List ℕ) where
   abbrev c : Command
   c = commandGiven first second vs
 
   abbrev kept : Remembered
-  kept = keptIn point
+  kept = keptIn remembered
 
-  module _ {n : ℕ} {last left : List ℕ} (w : WrittenCommand point c es out 0 n last left) where
+  module _ {n : ℕ} {last left : List ℕ} (w : WrittenCommand remembered c es out 0 n last left) where
     was-done : writeCommand kept c es (length out) ≡ done n
     was-done = accepted (isCommand kept c es) (spellCommand kept c es) (length out) (w .answered) ∙ ap done (sym (w .counted))
 
     stood : take n left ≡ given kept c es out n
     stood = ap (λ (l : List ℕ). take n l) (w .stands ∙ ap (λ (a : Answer ℕ). afterWrite a (spellCommand kept c es) out 0) was-done)
 
-    point-left : last ≡ twoOf (afterValues kept (valuesOf (c .parameters)))
-    unfolding keptAfter valueOr
-    point-left = w .remembered ∙ ap (λ (a : Answer ℕ). twoOf (keptAfter kept c a)) was-done
+    slots-left : last ≡ slotsOf (keptBehind kept c)
+    unfolding slotsAfter valueOr
+    slots-left = w .remembered ∙ ap (λ (a : Answer ℕ). slotsAfter remembered c a) was-done
 
     values-good : areValues (valuesOf (c .parameters)) ≡ true
     unfolding isCommand fits
@@ -129,13 +130,13 @@ module _ (point : List ℕ) (first second : ℕ) (vs es : List ℤ) (out : List 
       item-is : itemAt kept bytes (length before) (length list) ≡ command (back .read)
       item-is = back .whole
 
-      -- "comes back": with its letters, values and list, and "the same remembered point after it"
-      pub reads-back : {answer : ℕ} {item : List ℕ} {values : List ℤ} {behind : List ℕ} {entries : List ℤ} → NextItem point bytes (length before) list answer item values behind entries → ReadBack first second vs es (length before) n last list answer item values behind entries
-      unfolding commandGiven toldItem itemNumber itemFields itemValues nextKept afterItem
+      -- "comes back": with its letters, values and list, and "the same remembered point after it", and mode
+      pub reads-back : {answer : ℕ} {item : List ℕ} {values : List ℤ} {behind : List ℕ} {entries : List ℤ} → NextItem remembered bytes (length before) list answer item values behind entries → ReadBack first second vs es (length before) n last list answer item values behind entries
+      unfolding commandGiven toldItem itemNumber itemFields itemValues rememberedAfter afterItem
       reads-back r = record {
         answered = r .answered ∙ rw item-is;
         slots = r .slots ∙ rw (item-is, back .first-is, back .second-is, back .values-are, back .tail-is, back .count-is, back .next-is);
         same-values = r .numbers ∙ rw (item-is, back .values-are) values-so;
         same-entries = r .filled ∙ rw (item-is, back .entries-are);
-        same-point = r .remembered ∙ rw (item-is, back .kept-is) (sym point-left);
+        same-memory = r .remembered ∙ rw (item-is, back .kept-is) (sym slots-left);
       }
