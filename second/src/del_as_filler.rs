@@ -15,16 +15,9 @@ use DelMode::{Data, Filler};
 
 const BOTH: [DelMode; 2] = [Data, Filler];
 
-fn fresh(mode: DelMode) -> Remembered {
-    Remembered {
-        mode,
-        ..Remembered::FRESH
-    }
-}
-
 /// The lister's lines of the items, from a mode on.
 fn listed(mode: DelMode, bytes: &[u8]) -> String {
-    let lines: Vec<String> = items_from(bytes, fresh(mode))
+    let lines: Vec<String> = items_from(bytes, Remembered::fresh_in(mode))
         .map(|read| line_of(&read.item))
         .collect();
     lines.join(", ")
@@ -214,11 +207,13 @@ mod read {
             let is_kept = |byte: &&u8| **byte != DEL;
             let kept: Vec<u8> = bytes.iter().filter(is_kept).copied().collect();
             let before = |place: usize| bytes[..place].iter().filter(is_kept).count();
-            let padded = items_from(&bytes, fresh(Filler));
+            let padded = items_from(&bytes, Remembered::fresh_in(Filler));
             let padded: Vec<Item> = padded
                 .filter_map(|read| without_fillers(read.item, before))
                 .collect();
-            let plain: Vec<Item> = items_from(&kept, fresh(Data)).map(|r| r.item).collect();
+            let plain: Vec<Item> = items_from(&kept, Remembered::fresh_in(Data))
+                .map(|r| r.item)
+                .collect();
             assert_eq!(padded, plain, "{bytes:?}");
         }
     }
@@ -232,7 +227,7 @@ mod remember {
         let bytes = [27, 75, 73, 127, 49];
         assert_eq!(listed(Data, &bytes), "C 0 KI 1009");
         assert_eq!(listed(Filler, &bytes), "C 0 KI 1");
-        assert_eq!(left(fresh(Data), &bytes).mode, Data);
+        assert_eq!(left(Remembered::fresh_in(Data), &bytes).mode, Data);
     }
 
     #[test]
@@ -253,7 +248,7 @@ mod remember {
         for mode in BOTH {
             for bytes in [b"\x1bKI!".as_slice(), b"\x1bKI2", b"\x1bKI\x1b?1"] {
                 assert!(listed(mode, bytes).starts_with("C 0 KI "));
-                assert_eq!(left(fresh(mode), bytes).mode, mode);
+                assert_eq!(left(Remembered::fresh_in(mode), bytes).mode, mode);
             }
         }
     }
@@ -291,51 +286,34 @@ mod remember {
 mod write {
     use super::*;
 
+    /// Letters and values, and how the values are sent in mode 0 and in mode 1.
+    type Case<'a> = (&'a [u8; 2], Vec<Value>, &'a [u8], &'a [u8]);
+
     fn spelled(mode: DelMode, letters: &[u8; 2], values: Vec<Value>) -> Vec<u8> {
         let letters = *letters;
         let command = Command { letters, values };
-        let spelling = spell_command(&command, fresh(mode)).unwrap();
+        let spelling = spell_command(&command, Remembered::fresh_in(mode)).unwrap();
         spelling[3..].to_vec()
     }
 
     #[test]
     fn each_127_of_a_parameter_is_sent_as_the_pair_in_mode_1() {
+        let integer = |integer| vec![Value::Integer(integer)];
         let string = || Value::String(vec![65, 127, 127]);
-        let point = Value::Point(Point { x: 0, y: 124 });
-        for (letters, values, data, filler) in [
-            (
-                b"KA",
-                vec![Value::Integer(32767)],
-                b"\x5f\x7f?".as_slice(),
-                b"\x5f\x1b??".as_slice(),
-            ),
-            (
-                b"KA",
-                vec![Value::Integer(-1008)],
-                b"\x7f\x20",
-                b"\x1b?\x20",
-            ),
-            (b"LF", vec![point], b"\x7f@", b"\x1b?@"),
+        let raster = vec![Value::Integer(1023), string()];
+        let runs = vec![Value::Array(vec![1023, 1])];
+        let point = vec![Value::Point(Point { x: 0, y: 124 })];
+        let characters = vec![Value::Character(127), Value::Character(63)];
+        let cases: [Case; 7] = [
+            (b"KA", integer(32767), b"_\x7f?", b"_\x1b??"),
+            (b"KA", integer(-1008), b"\x7f ", b"\x1b? "),
+            (b"LF", point, b"\x7f@", b"\x1b?@"),
             (b"LT", vec![string()], b"3A\x7f\x7f", b"3A\x1b?\x1b?"),
-            (
-                b"RL",
-                vec![Value::Array(vec![1023, 1])],
-                b"2\x7f?1",
-                b"2\x1b??1",
-            ),
-            (
-                b"RP",
-                vec![Value::Integer(1023), string()],
-                b"\x7f?3A\x7f\x7f",
-                b"\x1b??3A\x1b?\x1b?",
-            ),
-            (
-                b"IQ",
-                vec![Value::Character(127), Value::Character(63)],
-                b"\x7f?",
-                b"\x1b??",
-            ),
-        ] {
+            (b"RL", runs, b"2\x7f?1", b"2\x1b??1"),
+            (b"RP", raster, b"\x7f?3A\x7f\x7f", b"\x1b??3A\x1b?\x1b?"),
+            (b"IQ", characters, b"\x7f?", b"\x1b??"),
+        ];
+        for (letters, values, data, filler) in cases {
             assert_eq!(spelled(Data, letters, values.clone()), data);
             assert_eq!(spelled(Filler, letters, values), filler);
         }

@@ -34,10 +34,7 @@ fn pieces(
     draw_command: fn(&mut Draws, Point) -> Command,
 ) -> Vec<u8> {
     let mut stream = Vec::new();
-    let mut remembered = Remembered {
-        mode,
-        ..Remembered::FRESH
-    };
+    let mut remembered = Remembered::fresh_in(mode);
     for _ in 0..PIECES {
         stream.extend(draw_text(draws));
         let command = draw_command(draws, remembered.point);
@@ -186,11 +183,8 @@ mod tests {
             let padded = made_in(&mut draws, DelMode::Filler);
             let padded = strewn(&mut draws, &padded);
             for (stream, mode) in [(plain, DelMode::Data), (padded, DelMode::Filler)] {
-                let remembered = Remembered {
-                    mode,
-                    ..Remembered::FRESH
-                };
-                let reads: Vec<_> = items_from(&stream, remembered).collect();
+                let reads = items_from(&stream, Remembered::fresh_in(mode));
+                let reads: Vec<_> = reads.collect();
                 assert!(reads.iter().all(|read| read.remembered.mode == mode));
                 let items: Vec<Item> = reads.into_iter().map(|read| read.item).collect();
                 assert_eq!(commands_and_refused(&items), (8, 0));

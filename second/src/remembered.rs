@@ -25,6 +25,13 @@ impl Remembered {
         mode: DelMode::Data,
     };
 
+    pub const fn fresh_in(mode: DelMode) -> Remembered {
+        Remembered {
+            mode,
+            ..Remembered::FRESH
+        }
+    }
+
     pub fn in_range(self) -> bool {
         self.point.in_range()
     }
