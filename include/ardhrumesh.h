@@ -17,8 +17,14 @@
  *
  * RECORDS
  *   Records are plain arrays, which the caller may keep, copy and compare:
- *     point[2]   the remembered point: x, y. A fresh one is {0, 0}.
- *     record[7]  the beam record: bits, left, bottom, right, top, x, y. ardh_fresh makes one. (0,0) is the lower left.
+ *     remembered[3]  what is remembered from command to command: x and y of the last point, and the DEL mode. Fresh it is {0, 0, 0}.
+ *     record[7]      the beam record: bits, left, bottom, right, top, x, y. ardh_fresh makes one. (0,0) is the lower left.
+ *
+ * THE DEL MODE
+ *   In mode 0 a 127 is data in a parameter and text outside commands. In mode 1 each plain 127 is filler: it is passed over in a command, and
+ *   between commands it is an item of its own (ARDH_ITEM_DEL). The pair 27 63 is 127 in a parameter in either mode; in mode 1 the DELs between
+ *   its two bytes are passed over too, and commands are written with it. KI 1 sets mode 1 behind itself and KI 0 mode 0; KI with another number,
+ *   and a refused one, leave the mode. Another mode than 0 and 1 is refused as a point outside 0..4095 is, with 8. Reports know no mode.
  */
 #ifndef ARDHRUMESH_H
 #define ARDHRUMESH_H
@@ -60,7 +66,8 @@ enum {
     ARDH_ITEM_TEXT = 1,            /* a byte outside commands */
     ARDH_ITEM_COMMAND = 2,         /* a whole command */
     ARDH_ITEM_REFUSED_COMMAND = 3, /* a refused command: the number returned says why */
-    ARDH_ITEM_REFUSED_CALL = 4     /* the call is refused, and there is no item: 7 or 8 is returned */
+    ARDH_ITEM_REFUSED_CALL = 4,    /* the call is refused, and there is no item: 7 or 8 is returned */
+    ARDH_ITEM_DEL = 5              /* a 127 between commands in mode 1 */
 };
 
 /* The kinds of parameters: what stands in item[5] behind a command, and what values[] then holds. */
@@ -79,9 +86,9 @@ enum {
 };
 
 /*
- * The item that starts at `start`, read from the remembered point, which is then that behind the item.
+ * The item that starts at `start`, read from what is remembered, which is then that behind the item. Only a command changes it.
  *   item[0]  what it is (ARDH_ITEM_...)
- *   item[1]  where the next item starts: text, command, refused command
+ *   item[1]  where the next item starts: text, DEL, command, refused command
  *   item[2]  the place of the refusal: refused command, refused call
  *   item[3]  the byte: text; the first letter: command
  *   item[4]  the second letter: command
@@ -90,17 +97,18 @@ enum {
  *   values   its fixed parameters, by kind: command
  * Returns 1 to 6 with ARDH_ITEM_REFUSED_COMMAND; 7 (place: start) or 8 (place: 0) with ARDH_ITEM_REFUSED_CALL; else 0.
  */
-uint8_t ardh_next_item(const uint8_t *bytes, size_t length, size_t start, uint16_t point[2], int32_t *list, size_t room, size_t item[7],
+uint8_t ardh_next_item(const uint8_t *bytes, size_t length, size_t start, uint16_t remembered[3], int32_t *list, size_t room, size_t item[7],
                        int32_t values[4]);
 
 /*
- * The shortest spelling of a command from the front of `out` on, from the remembered point, which is then that behind the command.
+ * The shortest spelling of a command from the front of `out` on, from what is remembered, which is then that behind the command. No command
+ * has more than 776 bytes in mode 0, or 1,033 in mode 1.
  * values holds its fixed parameters by the kind of its letters, as ardh_next_item gives them; a coordinate outside 0..4095 is refused.
  * The whole list is the entries of a string or an array; for other commands it is not looked at.
- * *written is the number of bytes. Returns 8 for letters that are no command's, a value or remembered point outside its range, or more
+ * *written is the number of bytes. Returns 8 for letters that are no command's, a value, remembered point or mode outside its range, or more
  * than 256 entries; then 7; else 0.
  */
-uint8_t ardh_write_command(uint8_t first, uint8_t second, const int32_t values[4], const int32_t *list, size_t entries, uint16_t point[2],
+uint8_t ardh_write_command(uint8_t first, uint8_t second, const int32_t values[4], const int32_t *list, size_t entries, uint16_t remembered[3],
                            uint8_t *out, size_t room, size_t *written);
 
 /* ---- reports to the host */
@@ -180,13 +188,15 @@ uint8_t ardh_look_up(const uint8_t *volatile_store, size_t volatile_length, cons
                      size_t place[3]);
 
 /*
- * The expansion of a macro into `out`: counts[0] bytes, and counts[1] macros entered.
- * Returns 12 for a store that is not well formed, 8 for a number outside 0..32767, 14 for a macro that neither store has; then the number of the first
- * trouble in byte order: 17 for a refused or cut command, and at a KX 8 for a negative number, 15 or 16; then 7 if the whole expansion does not fit
- * `out`; or 0.
+ * The expansion of a macro into `out`: counts[0] bytes, and counts[1] macros entered. It starts from what is remembered, which is then that
+ * behind it: a KI or a point in a body holds from there on, into the macros that are called and out again. DELs are copied, but for those
+ * inside a KX. A caller that then goes through `out` starts from what was remembered before this call, and comes to the same.
+ * Returns 12 for a store that is not well formed, 8 for a number outside 0..32767 or a remembered point or mode outside its range, 14 for a
+ * macro that neither store has; then the number of the first trouble in byte order: 17 for a refused or cut command, and at a KX 8 for a
+ * negative number, 15 or 16; then 7 if the whole expansion does not fit `out`; or 0.
  */
 uint8_t ardh_expand(const uint8_t *volatile_store, size_t volatile_length, const uint8_t *saved_store, size_t saved_length, int32_t number,
-                    uint8_t *out, size_t room, size_t counts[2]);
+                    uint16_t remembered[3], uint8_t *out, size_t room, size_t counts[2]);
 
 #ifdef __cplusplus
 }

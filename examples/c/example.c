@@ -1,6 +1,6 @@
 /*
- * A program to start from: it goes through a capture item by item, keeps the remembered point, carries out the pixel commands on a surface of
- * 480 by 360, keeps macros, counts what it met, and writes one command and one report.
+ * A program to start from: it goes through a capture item by item, keeps what is remembered, carries out the pixel commands on a surface of
+ * 480 by 360, keeps macros, counts what it met, and writes some commands and a report.
  *
  *     gcc -std=c99 -Wall -Wextra -Iinclude examples/c/example.c target/staticlib/libardhrumesh.a -o target/example
  *     target/example                                    goes through the few bytes below
@@ -31,13 +31,14 @@ enum {
 
 /* What the bench keeps from item to item. */
 struct bench {
-    uint16_t point[2];
+    uint16_t remembered[3]; /* the last point and the DEL mode */
     size_t record[7];
     uint8_t surface[WIDTH * HEIGHT];
     uint8_t volatile_store[STORE];
     uint8_t saved_store[STORE];
     uint8_t expansion[LONGEST_EXPANSION];
     size_t texts;
+    size_t dels;
     size_t commands;
     size_t refused_commands;
     size_t refusals[REFUSALS]; /* how often each number was given */
@@ -68,6 +69,11 @@ static const uint8_t built_in[] = {
     27, 75, 68, 53, 54, 65, 59, 69, 50, 68, 60, 67, 49, 68, 49, 67, 63, /* KD 5: the body RL, three pixels of colour 7 */
     27, 75, 88, 53,                               /* KX 5: expanded, and carried out */
     27, 82, 80, 51, 51, 42, 96, 60,               /* RP 3: colours 1 2, an end of row, and 3 in the row below */
+    27, 75, 73, 49,                               /* KI 1: from here on a plain 127 is filler */
+    127,                                          /* an item of its own */
+    27, 127, 82, 76, 127, 49, 65, 127, 127, 52,   /* RL with DELs in it: two pixels of colour 4 */
+    27, 75, 73, 48,                               /* KI 0: a 127 is data and text again */
+    127,                                          /* text */
     27, 82, 85, 49, 59, 54,                       /* RU 1 11 6: six bits a pixel */
     27, 82, 76, 50, 73, 48, 71, 63,               /* RL: two pixels of colour 16, one of colour 63 */
     27, 82, 80, 52, 49, 42,                       /* RP 4 with one character: refused */
@@ -162,11 +168,17 @@ static void draw(struct bench *bench, const struct item *item, char second)
         printf("        pixels: %zu\n", pixels);
 }
 
-/* KX. An expansion has no KX left in it, so going through it never comes back here. */
+/*
+ * KX. An expansion has no KX left in it, so going through it never comes back here. Expanding moves the point and the mode that it is handed,
+ * as the bodies' commands do; going through the expansion starts from those of before, and comes to the same.
+ */
 static void expand(struct bench *bench, int32_t macro)
 {
     size_t counts[2];
-    uint8_t number = ardh_expand(bench->volatile_store, STORE, bench->saved_store, STORE, macro, bench->expansion, LONGEST_EXPANSION, counts);
+    uint16_t behind[3];
+    memcpy(behind, bench->remembered, sizeof behind);
+    uint8_t number =
+        ardh_expand(bench->volatile_store, STORE, bench->saved_store, STORE, macro, behind, bench->expansion, LONGEST_EXPANSION, counts);
     show_outcome(bench, number);
     if (number != ARDH_DONE)
         return;
@@ -174,6 +186,8 @@ static void expand(struct bench *bench, int32_t macro)
     show_bytes(bench->expansion, counts[0]);
     printf("    its items:\n");
     go_through(bench, bench->expansion, counts[0]);
+    if (memcmp(behind, bench->remembered, sizeof behind) != 0)
+        stop(1, "expanding a macro", "its items leave another point or mode than was said");
     printf("    end of the expansion\n");
 }
 
@@ -224,6 +238,10 @@ static void take(struct bench *bench, const struct item *item, size_t start, uin
         bench->texts++;
         printf("%5zu  text %zu\n", start, item->parts[3]);
         break;
+    case ARDH_ITEM_DEL:
+        bench->dels++;
+        printf("%5zu  DEL\n", start);
+        break;
     case ARDH_ITEM_COMMAND:
         bench->commands++;
         show_command(item, start);
@@ -245,7 +263,7 @@ static void go_through(struct bench *bench, const uint8_t *bytes, size_t length)
     struct item item;
     size_t start = 0;
     while (start < length) {
-        uint8_t number = ardh_next_item(bytes, length, start, bench->point, item.list, LONGEST_LIST, item.parts, item.values);
+        uint8_t number = ardh_next_item(bytes, length, start, bench->remembered, item.list, LONGEST_LIST, item.parts, item.values);
         take(bench, &item, start, number);
         start = item.parts[1];
     }
@@ -253,7 +271,8 @@ static void go_through(struct bench *bench, const uint8_t *bytes, size_t length)
 
 static void show_counts(const struct bench *bench)
 {
-    printf("\nItems: %zu of text, %zu commands, %zu refused commands\n", bench->texts, bench->commands, bench->refused_commands);
+    printf("\nItems: %zu of text, %zu DELs, %zu commands, %zu refused commands\n", bench->texts, bench->dels, bench->commands,
+           bench->refused_commands);
     for (unsigned number = 1; number < REFUSALS; number++)
         if (bench->refusals[number] > 0)
             printf("%8zu of refusal %u: %s\n", bench->refusals[number], number, in_words(number));
@@ -290,17 +309,28 @@ static void show_viewport(const struct bench *bench)
     }
 }
 
+/* LF to a point of the column 0, from what is remembered when fresh, but for the mode. */
+static void write_move(int32_t y, uint16_t mode)
+{
+    const int32_t to[4] = {0, y, 0, 0};
+    const int32_t no_entries[1] = {0};
+    uint16_t remembered[3] = {0, 0, mode};
+    uint8_t out[9]; /* no LF is longer */
+    size_t end;
+    must_be_done(ardh_write_command('L', 'F', to, no_entries, 0, remembered, out, sizeof out, &end), "writing LF");
+    printf("LF (0,%ld) is written in mode %u:", (long)y, (unsigned)mode);
+    show_bytes(out, end);
+}
+
 /* What the host would send, and what the terminal would report. */
 static void write_some(void)
 {
-    const int32_t to[4] = {0, 100, 0, 0};
-    const int32_t no_entries[1] = {0};
-    uint16_t point[2] = {0, 0};
-    uint8_t out[8];
+    uint8_t out[3];
     size_t end;
-    must_be_done(ardh_write_command('L', 'F', to, no_entries, 0, point, out, sizeof out, &end), "writing LF");
-    printf("\nLF (0,100) is written");
-    show_bytes(out, end);
+    printf("\n");
+    write_move(100, 0);
+    write_move(124, 0);
+    write_move(124, 1);
     must_be_done(ardh_write_integer_report(600, out, sizeof out, 0, &end), "writing a report");
     printf("the report 600 is written");
     show_bytes(out, end);
@@ -363,7 +393,7 @@ static void go_through_file(struct bench *bench, const char *name)
 
 int main(int arguments, char **argument)
 {
-    static struct bench bench; /* all noughts: a fresh point, an empty surface, empty stores */
+    static struct bench bench; /* all noughts: a fresh point in mode 0, an empty surface, empty stores */
     if (arguments > 3)
         stop(2, "usage", "example [FILE [SURFACE.pgm]]");
     must_be_done(ardh_fresh(WIDTH, HEIGHT, bench.record), "making a fresh record");

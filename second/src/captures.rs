@@ -7,8 +7,9 @@ use std::process::{Command, Stdio};
 
 use crate::draws::Draws;
 use crate::lister::{listing_of, MOST_BYTES};
-use crate::made::made_stream;
-use crate::parameters::ESC;
+use crate::made::{made_in, made_stream, strewn};
+use crate::parameters::{DEL, ESC};
+use crate::remembered::DelMode;
 
 /// How many captures of each sort.
 const CAPTURES: u64 = 60;
@@ -24,10 +25,22 @@ const NOISE: [u8; 32] = [
 type Make = fn(&mut Draws) -> Vec<u8>;
 
 /// Each sort by the way it comes to a stream.
-const SORTS: [Make; 6] = [made_stream, cut, damaged, escapes, pairs, noise];
+const SORTS: [Make; 8] = [
+    made_stream,
+    cut,
+    damaged,
+    escapes,
+    pairs,
+    noise,
+    padded,
+    padded_noise,
+];
 
-/// What begins a line: text, a command, a refused one, the end of the input, or that more follows.
-const LINES: [char; 5] = ['T', 'C', 'R', 'E', 'M'];
+/// What begins a line: text, a DEL that is an item, a command, a refused one, the end of the input, or that more follows.
+const LINES: [char; 6] = ['T', 'D', 'C', 'R', 'E', 'M'];
+
+const KI_0: [u8; 4] = [ESC, b'K', b'I', 48];
+const KI_1: [u8; 4] = [ESC, b'K', b'I', 49];
 
 /// How many captures were listed, and how many lines of each letter came of them.
 #[derive(Debug, Default, PartialEq, Eq)]
@@ -142,7 +155,7 @@ fn changed(draws: &mut Draws, byte: fn(&mut Draws) -> u8) -> Vec<u8> {
 fn pairs(draws: &mut Draws) -> Vec<u8> {
     let mut paired = Vec::new();
     for byte in made_stream(draws) {
-        if byte == 127 || byte > 95 && draws.draw_from(4) == 0 {
+        if byte == DEL || byte > 95 && draws.draw_from(4) == 0 {
             paired.extend([ESC, 63]);
         } else {
             paired.push(byte);
@@ -158,6 +171,31 @@ fn noise(draws: &mut Draws) -> Vec<u8> {
         .collect()
 }
 
+/// After KI 1 a stream of that mode with DELs everywhere, cut now and then. Behind every second one the mode stays.
+fn padded(draws: &mut Draws) -> Vec<u8> {
+    let stream = made_in(draws, DelMode::Filler);
+    let mut stream = strewn(draws, &stream);
+    if draws.draw_from(3) == 0 {
+        let left = draws.draw_below(stream.len() + 1);
+        stream.truncate(left);
+    }
+    between_modes(draws, &stream)
+}
+
+fn padded_noise(draws: &mut Draws) -> Vec<u8> {
+    let stream = noise(draws);
+    let stream = strewn(draws, &stream);
+    between_modes(draws, &stream)
+}
+
+fn between_modes(draws: &mut Draws, stream: &[u8]) -> Vec<u8> {
+    let end: &[u8] = match draws.draw_from(2) {
+        0 => &KI_0,
+        _ => &[],
+    };
+    [&KI_1, stream, end].concat()
+}
+
 #[cfg(test)]
 mod tests {
     use super::*;
@@ -165,7 +203,7 @@ mod tests {
     #[test]
     fn captures_are_empty_short_and_around_the_most_that_is_listed() {
         let lengths: Vec<usize> = all_captures().map(|capture| capture.len()).collect();
-        assert_eq!(lengths.len(), 360);
+        assert_eq!(lengths.len(), 480);
         for length in [0, 4095, 4096, 4097, 4101] {
             assert!(lengths.contains(&length), "{length}");
         }
@@ -188,7 +226,7 @@ mod tests {
         for capture in all_captures() {
             tally.take(&listing_of(&capture));
         }
-        assert_eq!(tally.lines[3] + tally.lines[4], 360);
+        assert_eq!(tally.lines[4] + tally.lines[5], 480);
         assert!(tally.lines.iter().all(|&count| count >= 25), "{tally}");
     }
 
@@ -197,7 +235,8 @@ mod tests {
         let mut tally = Tally::default();
         tally.take(&listing_of(b"A\x1bKA0"));
         tally.take(&listing_of(b"\x1b"));
-        let line = "2 captures are listed alike: 1 T 1 C 1 R 2 E 0 M";
+        tally.take(&listing_of(b"\x1bKI1\x7f"));
+        let line = "3 captures are listed alike: 1 T 1 D 2 C 1 R 3 E 0 M";
         assert_eq!(tally.to_string(), line);
     }
 

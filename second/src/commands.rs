@@ -2,11 +2,12 @@
 
 use std::ops::RangeInclusive;
 
-use crate::answers::{Found, Reading, ReadingRefused, Refusal, Spelling};
+use crate::answers::{Found, Reading, Refusal, Spelling};
 use crate::forms::{begins_a_command, form_of, Form, Letters, Parameter};
 use crate::integers::{read_count, read_integer, spell_count, spell_integer};
-use crate::parameters::{next_byte, ESC};
+use crate::parameters::{next_byte, past_fillers, sent, ESC};
 use crate::points::{read_point, spell_point, Point};
+use crate::remembered::{DelMode, Remembered};
 
 const CHARACTERS: RangeInclusive<u8> = 32..=127;
 
@@ -32,6 +33,15 @@ impl Command {
     pub fn last_point(&self) -> Option<Point> {
         self.values.iter().rev().find_map(Value::point)
     }
+
+    /// The DEL mode that the command sets. "KI 0 returns to the old reading; other numbers leave the mode."
+    pub fn mode_set(&self) -> Option<DelMode> {
+        match (&self.letters, self.values.as_slice()) {
+            (b"KI", [Value::Integer(0)]) => Some(DelMode::Data),
+            (b"KI", [Value::Integer(1)]) => Some(DelMode::Filler),
+            _ => None,
+        }
+    }
 }
 
 impl Value {
@@ -55,8 +65,8 @@ impl Value {
 }
 
 /// Reads the command whose ESC stands at a place.
-pub fn read_command(bytes: &[u8], escape: usize, remembered: Point) -> Reading<Command> {
-    let letters = read_letters(bytes, escape + 1)?;
+pub fn read_command(bytes: &[u8], escape: usize, remembered: Remembered) -> Reading<Command> {
+    let letters = read_letters(bytes, escape, remembered.mode)?;
     let values = read_values(letters.value.parameters, bytes, letters.next, remembered)?;
     Ok(values.map(|values| Command {
         letters: letters.value.letters,
@@ -64,29 +74,30 @@ pub fn read_command(bytes: &[u8], escape: usize, remembered: Point) -> Reading<C
     }))
 }
 
-/// "A first letter that begins no command, or a second that completes none, is refusal 2 there."
-fn read_letters(bytes: &[u8], place: usize) -> Reading<&'static Form> {
-    let first = letter_at(bytes, place)?;
+/// The letters behind an ESC: "a first letter that begins no command, or a second that completes none, is refusal 2 there".
+pub fn read_letters(bytes: &[u8], escape: usize, mode: DelMode) -> Reading<&'static Form> {
+    let first = read_letter(bytes, escape + 1, mode)?;
     // Before the second is looked at, as "the earliest byte decides".
-    if !begins_a_command(first) {
-        return Err(Refusal::UnknownCommand.at(place));
+    if !begins_a_command(first.value) {
+        return Err(Refusal::UnknownCommand.at(first.last));
     }
-    let last = place + 1;
-    let second = letter_at(bytes, last)?;
-    let form = form_of([first, second]).ok_or(Refusal::UnknownCommand.at(last))?;
-    Ok(Found {
-        value: form,
-        last,
-        next: last + 1,
-    })
+    let second = read_letter(bytes, first.next, mode)?;
+    let form = form_of([first.value, second.value]);
+    let form = form.ok_or(Refusal::UnknownCommand.at(second.last))?;
+    Ok(second.map(|_| form))
 }
 
 /// "An op letter of 27 is refusal 6 there", before 63 too: pairs are for parameters.
-fn letter_at(bytes: &[u8], place: usize) -> Result<u8, ReadingRefused> {
+fn read_letter(bytes: &[u8], start: usize, mode: DelMode) -> Reading<u8> {
+    let place = past_fillers(bytes, start, mode);
     match bytes.get(place) {
         None => Err(Refusal::BytesEnd.at(bytes.len())),
         Some(&ESC) => Err(Refusal::NewEscape.at(place)),
-        Some(&letter) => Ok(letter),
+        Some(&letter) => Ok(Found {
+            value: letter,
+            last: place,
+            next: place + 1,
+        }),
     }
 }
 
@@ -94,14 +105,14 @@ fn read_values(
     parameters: &[Parameter],
     bytes: &[u8],
     start: usize,
-    remembered: Point,
+    remembered: Remembered,
 ) -> Reading<Vec<Value>> {
-    let mut last_point = remembered;
+    let mut going = remembered;
     let mut values = nothing_yet(start);
     for &parameter in parameters {
-        let found = read_value(parameter, bytes, values.next, last_point)?;
+        let found = read_value(parameter, bytes, values.next, going)?;
         // The second point of RS is spelled against its first.
-        last_point = found.value.point().unwrap_or(last_point);
+        going.point = found.value.point().unwrap_or(going.point);
         append(&mut values, found);
     }
     Ok(values)
@@ -111,22 +122,23 @@ fn read_value(
     parameter: Parameter,
     bytes: &[u8],
     start: usize,
-    last_point: Point,
+    remembered: Remembered,
 ) -> Reading<Value> {
+    let mode = remembered.mode;
     match parameter {
-        Parameter::Integer => Ok(read_integer(bytes, start)?.map(Value::Integer)),
-        Parameter::Point => Ok(read_point(bytes, start, last_point)?.map(Value::Point)),
-        Parameter::Real => read_real(bytes, start),
-        Parameter::String => Ok(read_list(bytes, start, read_character)?.map(Value::String)),
-        Parameter::Array => Ok(read_list(bytes, start, read_integer)?.map(Value::Array)),
-        Parameter::Character => Ok(read_character(bytes, start)?.map(Value::Character)),
+        Parameter::Integer => Ok(read_integer(bytes, start, mode)?.map(Value::Integer)),
+        Parameter::Point => Ok(read_point(bytes, start, remembered)?.map(Value::Point)),
+        Parameter::Real => read_real(bytes, start, mode),
+        Parameter::String => Ok(read_list(bytes, start, mode, read_character)?.map(Value::String)),
+        Parameter::Array => Ok(read_list(bytes, start, mode, read_integer)?.map(Value::Array)),
+        Parameter::Character => Ok(read_character(bytes, start, mode)?.map(Value::Character)),
     }
 }
 
 /// "Two integers, mantissa and exponent."
-fn read_real(bytes: &[u8], start: usize) -> Reading<Value> {
-    let mantissa = read_integer(bytes, start)?;
-    let exponent = read_integer(bytes, mantissa.next)?;
+fn read_real(bytes: &[u8], start: usize, mode: DelMode) -> Reading<Value> {
+    let mantissa = read_integer(bytes, start, mode)?;
+    let exponent = read_integer(bytes, mantissa.next, mode)?;
     Ok(exponent.map(|exponent| Value::Real {
         mantissa: mantissa.value,
         exponent,
@@ -134,8 +146,8 @@ fn read_real(bytes: &[u8], start: usize) -> Reading<Value> {
 }
 
 /// A byte of a parameter is 32 to 127 by itself, and a character may be any of these.
-fn read_character(bytes: &[u8], place: usize) -> Reading<u8> {
-    let byte = next_byte(bytes, place)?;
+fn read_character(bytes: &[u8], start: usize, mode: DelMode) -> Reading<u8> {
+    let byte = next_byte(bytes, start, mode)?;
     Ok(Found {
         value: byte.value,
         last: byte.place,
@@ -147,12 +159,13 @@ fn read_character(bytes: &[u8], place: usize) -> Reading<u8> {
 fn read_list<T>(
     bytes: &[u8],
     start: usize,
-    read_entry: fn(&[u8], usize) -> Reading<T>,
+    mode: DelMode,
+    read_entry: fn(&[u8], usize, DelMode) -> Reading<T>,
 ) -> Reading<Vec<T>> {
-    let count = read_count(bytes, start)?;
+    let count = read_count(bytes, start, mode)?;
     let mut list = nothing_yet(count.next);
     for _ in 0..count.value {
-        let entry = read_entry(bytes, list.next)?;
+        let entry = read_entry(bytes, list.next, mode)?;
         append(&mut list, entry);
     }
     Ok(list)
@@ -176,17 +189,17 @@ fn append<T>(values: &mut Found<Vec<T>>, found: Found<T>) {
 /// The shortest spelling, from its ESC on.
 /// 8 is "for letters or a kind of parameters not in the table, a value or remembered point outside its range, or more
 /// than 256 entries".
-pub fn spell_command(command: &Command, remembered: Point) -> Spelling {
+pub fn spell_command(command: &Command, remembered: Remembered) -> Spelling {
     let form = form_of(command.letters).ok_or(Refusal::NotValid)?;
     let parameters: Vec<Parameter> = command.values.iter().map(Value::parameter).collect();
     if parameters != form.parameters || !remembered.in_range() {
         return Err(Refusal::NotValid);
     }
-    let mut last_point = remembered;
+    let mut last_point = remembered.point;
     let mut spelling = vec![ESC];
     spelling.extend(command.letters);
     for value in &command.values {
-        spelling.extend(spell_value(value, last_point)?);
+        spelling.extend(sent(&spell_value(value, last_point)?, remembered.mode));
         last_point = value.point().unwrap_or(last_point);
     }
     Ok(spelling)
@@ -205,7 +218,7 @@ fn spell_value(value: &Value, last_point: Point) -> Spelling {
     }
 }
 
-/// "The writer writes 127", never the pair.
+/// A byte that stands for itself; how a 127 is sent is another matter.
 fn spell_character(character: u8) -> Spelling {
     if CHARACTERS.contains(&character) {
         Ok(vec![character])
@@ -228,8 +241,7 @@ mod tests {
     use super::*;
     use crate::draws::Draws;
     use crate::made::draw_command;
-
-    const DEL: u8 = 127;
+    use crate::parameters::DEL;
 
     fn command(letters: &Letters, values: Vec<Value>) -> Command {
         Command {
@@ -242,19 +254,27 @@ mod tests {
         Value::Point(Point { x, y })
     }
 
+    /// Remembered in mode 0.
+    fn from(x: u32, y: u32) -> Remembered {
+        Remembered {
+            point: Point { x, y },
+            ..Remembered::FRESH
+        }
+    }
+
     /// Puts ESC and the letters before the bytes of the parameters.
     fn with_letters(letters: &Letters, parameters: &[u8]) -> Vec<u8> {
         [&[ESC], letters.as_slice(), parameters].concat()
     }
 
-    fn read_whole(bytes: &[u8], remembered: Point) -> Command {
+    fn read_whole(bytes: &[u8], remembered: Remembered) -> Command {
         let found = read_command(bytes, 0, remembered).unwrap();
         assert_eq!((found.last, found.next), (bytes.len() - 1, bytes.len()));
         found.value
     }
 
     fn refusal(bytes: &[u8]) -> (u32, usize) {
-        let refused = read_command(bytes, 0, Point::FRESH).unwrap_err();
+        let refused = read_command(bytes, 0, Remembered::FRESH).unwrap_err();
         (refused.refusal.number(), refused.place)
     }
 
@@ -326,21 +346,24 @@ mod tests {
     fn worked_commands_are_spelled_and_read() {
         for (command, parameters) in worked() {
             let bytes = with_letters(&command.letters, parameters);
-            assert_eq!(spell_command(&command, Point::FRESH).as_ref(), Ok(&bytes));
-            assert_eq!(read_whole(&bytes, Point::FRESH), command);
+            assert_eq!(
+                spell_command(&command, Remembered::FRESH).as_ref(),
+                Ok(&bytes)
+            );
+            assert_eq!(read_whole(&bytes, Remembered::FRESH), command);
         }
     }
 
     #[test]
     fn a_command_is_read_at_its_place_and_bytes_behind_it_are_left() {
-        let found = read_command(&[65, 27, 75, 65, 48, 27], 1, Point::FRESH).unwrap();
+        let found = read_command(&[65, 27, 75, 65, 48, 27], 1, Remembered::FRESH).unwrap();
         assert_eq!(found.value, command(b"KA", vec![Value::Integer(0)]));
         assert_eq!((found.last, found.next), (4, 5));
     }
 
     #[test]
     fn an_empty_list_ends_with_its_count() {
-        let found = read_command(b"\x1bLT0A", 0, Point::FRESH).unwrap();
+        let found = read_command(b"\x1bLT0A", 0, Remembered::FRESH).unwrap();
         assert_eq!((found.last, found.next), (3, 4));
     }
 
@@ -495,12 +518,12 @@ mod tests {
         ];
         for (letters, parameters, values) in with_pairs {
             let bytes = with_letters(letters, parameters);
-            let read = read_whole(&bytes, Point::FRESH);
+            let read = read_whole(&bytes, Remembered::FRESH);
             assert_eq!(read, command(letters, values));
             // "The writer writes 127."
-            let spelling = spell_command(&read, Point::FRESH).unwrap();
+            let spelling = spell_command(&read, Remembered::FRESH).unwrap();
             assert!(!spelling[1..].contains(&ESC));
-            assert_eq!(read_whole(&spelling, Point::FRESH), read);
+            assert_eq!(read_whole(&spelling, Remembered::FRESH), read);
         }
         // A pair as the high byte of a count, which is then too great.
         assert_eq!(refusal_behind(b"LT", &[ESC, 63, 48]), (5, 5));
@@ -508,7 +531,7 @@ mod tests {
 
     #[test]
     fn the_second_point_of_rs_follows_from_the_first() {
-        let remembered = Point { x: 4095, y: 3071 };
+        let remembered = from(4095, 3071);
         let first = point(1365, 2730);
         let second = point(1365, 2730);
         let bytes = with_letters(b"RS", &[53, 105, 106, 42, 85, 85]);
@@ -532,12 +555,12 @@ mod tests {
     #[test]
     fn a_command_is_spelled_from_the_remembered_point() {
         let lf = command(b"LF", vec![point(0, 100)]);
-        let remembered = Point { x: 3, y: 103 };
+        let remembered = from(3, 103);
         assert_eq!(
             spell_command(&lf, remembered),
             Ok(with_letters(b"LF", &[96, 121, 64]))
         );
-        let remembered = Point { x: 124, y: 100 };
+        let remembered = from(124, 100);
         assert_eq!(
             spell_command(&lf, remembered),
             Ok(with_letters(b"LF", &[64]))
@@ -551,8 +574,8 @@ mod tests {
             command(b"RD", vec![Value::Array(vec![-32768; 256])]),
         ];
         for command in fit {
-            let spelling = spell_command(&command, Point::FRESH).unwrap();
-            assert_eq!(read_whole(&spelling, Point::FRESH), command);
+            let spelling = spell_command(&command, Remembered::FRESH).unwrap();
+            assert_eq!(read_whole(&spelling, Remembered::FRESH), command);
         }
     }
 
@@ -581,47 +604,45 @@ mod tests {
         ];
         for command in wrong {
             assert_eq!(
-                spell_command(&command, Point::FRESH),
+                spell_command(&command, Remembered::FRESH),
                 Err(Refusal::NotValid)
             );
         }
         // The remembered point counts for commands without points as well.
         let ka = command(b"KA", vec![Value::Integer(0)]);
-        assert_eq!(spell_command(&ka, outside), Err(Refusal::NotValid));
+        assert_eq!(spell_command(&ka, from(4096, 0)), Err(Refusal::NotValid));
+    }
+
+    /// Drawn commands, each with what is remembered before it: what the one before leaves, and now and then the other mode.
+    fn drawn_commands(seed: u64, count: usize) -> impl Iterator<Item = (Command, Remembered)> {
+        let mut draws = Draws::starting_with(seed);
+        let mut remembered = Remembered::FRESH;
+        (0..count).map(move |_| {
+            remembered.mode = match draws.draw_from(16) {
+                0 => DelMode::Filler,
+                1 => DelMode::Data,
+                _ => remembered.mode,
+            };
+            let command = draw_command(&mut draws, remembered.point);
+            let before = remembered;
+            remembered = before.behind(&command);
+            (command, before)
+        })
     }
 
     #[test]
     fn drawn_commands_go_there_and_back() {
-        let mut draws = Draws::starting_with(7);
-        let mut remembered = Point::FRESH;
-        for _ in 0..20_000 {
-            let command = draw_command(&mut draws, remembered);
+        for (command, remembered) in drawn_commands(7, 20_000) {
             let spelling = spell_command(&command, remembered).unwrap();
             assert_eq!(read_whole(&spelling, remembered), command);
-            assert_eq!(
-                read_whole(&with_pairs_for_del(&spelling), remembered),
-                command
-            );
-            remembered = command.last_point().unwrap_or(remembered);
+            let paired = sent(&spelling, DelMode::Filler);
+            assert_eq!(read_whole(&paired, remembered), command);
         }
-    }
-
-    fn with_pairs_for_del(bytes: &[u8]) -> Vec<u8> {
-        bytes
-            .iter()
-            .flat_map(|&byte| match byte {
-                DEL => vec![ESC, 63],
-                _ => vec![byte],
-            })
-            .collect()
     }
 
     #[test]
     fn no_part_of_a_spelling_can_be_left_out() {
-        let mut draws = Draws::starting_with(11);
-        let mut remembered = Point::FRESH;
-        for _ in 0..5_000 {
-            let command = draw_command(&mut draws, remembered);
+        for (command, remembered) in drawn_commands(11, 5_000) {
             let spelling = spell_command(&command, remembered).unwrap();
             for start in 3..spelling.len() {
                 for end in start + 1..=spelling.len() {
@@ -630,7 +651,6 @@ mod tests {
                     assert_ne!(read.ok().map(|found| found.value).as_ref(), Some(&command));
                 }
             }
-            remembered = command.last_point().unwrap_or(remembered);
         }
     }
 }

@@ -2,30 +2,37 @@
 
 use crate::answers::Refusal;
 use crate::commands::{Command, Value};
-use crate::items::{items_of, Item};
+use crate::items::{item_at, Item};
+use crate::remembered::Remembered;
 use crate::store::Stores;
 
 const DEEPEST: u32 = 8;
 const MOST_ENTERED: usize = 1024;
 
-/// "The answer gives bytes written and macros entered."
+/// "The answer gives bytes written and macros entered." What is then remembered goes with it.
 #[derive(Clone, Copy, Debug, PartialEq, Eq)]
 pub struct Expanded {
     pub bytes: usize,
     pub entered: usize,
+    pub remembered: Remembered,
 }
 
 pub fn expand(
     volatile: &[u8],
     saved: &[u8],
     number: i32,
+    remembered: Remembered,
     out: &mut [u8],
 ) -> Result<Expanded, Refusal> {
     // "The start first gives 12 .., 8, 14."
     let stores = Stores::read(volatile, saved)?;
+    if !remembered.in_range() {
+        return Err(Refusal::NotValid);
+    }
     let body = stores.find(number)?;
     let mut expanding = Expanding {
         stores: &stores,
+        remembered,
         entered: 0,
         result: Vec::new(),
     };
@@ -37,28 +44,33 @@ pub fn expand(
     Ok(Expanded {
         bytes,
         entered: expanding.entered,
+        remembered: expanding.remembered,
     })
 }
 
 struct Expanding<'a> {
     stores: &'a Stores<'a>,
+    remembered: Remembered,
     entered: usize,
     result: Vec<u8>,
 }
 
 impl Expanding<'_> {
+    /// "Macro bodies are read in the caller's mode, and a KI in a body holds from there on": so behind a KX this body is read in the mode
+    /// that the macro called has left.
     fn enter(&mut self, body: &[u8], depth: u32) -> Result<(), Refusal> {
         self.entered += 1;
-        let items = items_of(body);
-        for (index, item) in items.iter().enumerate() {
-            let end = items.get(index + 1).map_or(body.len(), Item::start);
-            match item {
+        let mut start = 0;
+        while let Some(read) = item_at(body, start, self.remembered) {
+            self.remembered = read.remembered;
+            match &read.item {
                 Item::RefusedCommand { .. } => return Err(Refusal::BodyRefused),
                 Item::Command { command, .. } if command.letters == *b"KX" => {
                     self.call(number_of(command), depth)?;
                 }
-                _ => self.result.extend(&body[item.start()..end]),
+                _ => self.result.extend(&body[start..read.next]),
             }
+            start = read.next;
         }
         Ok(())
     }
@@ -93,6 +105,7 @@ fn number_of(call: &Command) -> i32 {
 mod tests {
     use super::*;
     use crate::integers::spell_integer;
+    use crate::points::Point;
     use crate::store::define;
 
     fn call(number: i32) -> Vec<u8> {
@@ -110,7 +123,8 @@ mod tests {
 
     fn expansion(macros: &[(i32, Vec<u8>)], number: i32) -> Result<(Vec<u8>, usize), Refusal> {
         let mut out = [255; 3000];
-        let expanded = expand(&store_of(macros), &[], number, &mut out)?;
+        let store = store_of(macros);
+        let expanded = expand(&store, &[], number, Remembered::FRESH, &mut out)?;
         assert!(out[expanded.bytes..].iter().all(|&byte| byte == 255));
         Ok((out[..expanded.bytes].to_vec(), expanded.entered))
     }
@@ -202,7 +216,19 @@ mod tests {
             (&store, &store, 32768, Refusal::NotValid),
             (&store, &store, 2, Refusal::NoSuchMacro),
         ] {
-            assert_eq!(expand(volatile, saved, number, &mut out), Err(refusal));
+            let answer = expand(volatile, saved, number, Remembered::FRESH, &mut out);
+            assert_eq!(answer, Err(refusal));
+        }
+        let outside = Remembered {
+            point: Point { x: 0, y: 4096 },
+            ..Remembered::FRESH
+        };
+        for (volatile, number, refusal) in [
+            (&malformed[..], 1, Refusal::StoreMalformed),
+            (&store, 2, Refusal::NotValid),
+        ] {
+            let answer = expand(volatile, &[], number, outside, &mut out);
+            assert_eq!(answer, Err(refusal));
         }
         assert_eq!(out, [255]);
     }
@@ -211,16 +237,16 @@ mod tests {
     fn the_output_is_looked_at_last() {
         let store = store_of(&[(1, b"ABC".to_vec()), (2, b"ABC\x1b".to_vec())]);
         let mut out = [255; 4];
-        let too_short = expand(&store, &[], 1, &mut out[..2]);
-        assert_eq!(too_short, Err(Refusal::TooShort));
-        let wrong = expand(&store, &[], 2, &mut out[..2]);
-        assert_eq!(wrong, Err(Refusal::BodyRefused));
+        let expanded = |number, out: &mut [u8]| expand(&store, &[], number, Remembered::FRESH, out);
+        assert_eq!(expanded(1, &mut out[..2]), Err(Refusal::TooShort));
+        assert_eq!(expanded(2, &mut out[..2]), Err(Refusal::BodyRefused));
         assert_eq!(out, [255; 4]);
-        let expanded = Expanded {
+        let whole = Expanded {
             bytes: 3,
             entered: 1,
+            remembered: Remembered::FRESH,
         };
-        assert_eq!(expand(&store, &[], 1, &mut out), Ok(expanded));
+        assert_eq!(expanded(1, &mut out), Ok(whole));
         assert_eq!(out, *b"ABC\xff");
     }
 }

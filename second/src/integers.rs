@@ -2,6 +2,7 @@
 
 use crate::answers::{put, Found, Reading, Refusal, Spelling, Writing};
 use crate::parameters::next_byte;
+use crate::remembered::DelMode;
 
 const SMALLEST: i32 = -32768;
 const GREATEST: i32 = 32767;
@@ -9,17 +10,17 @@ const GREATEST_COUNT: u32 = 256;
 const MOST_HIGH_BYTES: usize = 2;
 
 /// "Up to two high bytes 64..127, six bits each, then a low byte 32..63."
-pub fn read_integer(bytes: &[u8], start: usize) -> Reading<i32> {
+pub fn read_integer(bytes: &[u8], start: usize, mode: DelMode) -> Reading<i32> {
     let mut high = 0;
     let mut high_bytes = 0;
-    let mut byte = next_byte(bytes, start)?;
+    let mut byte = next_byte(bytes, start, mode)?;
     while byte.value >= 64 {
         if high_bytes == MOST_HIGH_BYTES {
             return Err(Refusal::IntegerOutside.at(byte.place));
         }
         high = high * 64 + i32::from(byte.value - 64);
         high_bytes += 1;
-        byte = next_byte(bytes, byte.next)?;
+        byte = next_byte(bytes, byte.next, mode)?;
     }
     let value = join_low_byte(high, byte.value);
     if !(SMALLEST..=GREATEST).contains(&value) {
@@ -70,8 +71,8 @@ pub fn spell_integer(value: i32) -> Spelling {
 }
 
 /// "A count is an integer 0..256." Of the refusals at one byte, 4 comes before 5.
-pub fn read_count(bytes: &[u8], start: usize) -> Reading<u32> {
-    let integer = read_integer(bytes, start)?;
+pub fn read_count(bytes: &[u8], start: usize, mode: DelMode) -> Reading<u32> {
+    let integer = read_integer(bytes, start, mode)?;
     match count_from(integer.value) {
         Some(value) => Ok(Found {
             value,
@@ -108,6 +109,14 @@ mod tests {
         (32767, &[95, 127, 63]),
         (-32768, &[96, 64, 32]),
     ];
+
+    fn read_integer(bytes: &[u8], start: usize) -> Reading<i32> {
+        super::read_integer(bytes, start, DelMode::Data)
+    }
+
+    fn read_count(bytes: &[u8], start: usize) -> Reading<u32> {
+        super::read_count(bytes, start, DelMode::Data)
+    }
 
     #[test]
     fn worked_integers_are_written_and_read() {

@@ -1,15 +1,21 @@
-//! The items of a run of bytes: text, commands and refused commands.
+//! The items of a run of bytes: text, DELs that are filler, commands and refused commands.
+
+use std::iter::successors;
 
 use crate::answers::ReadingRefused;
 use crate::commands::{read_command, Command};
-use crate::parameters::ESC;
-use crate::points::Point;
+use crate::parameters::{DEL, ESC};
+use crate::remembered::{DelMode, Remembered};
 
 #[derive(Clone, Debug, PartialEq, Eq)]
 pub enum Item {
     Text {
         place: usize,
         byte: u8,
+    },
+    /// "Or makes an item of its own between commands."
+    Del {
+        place: usize,
     },
     Command {
         start: usize,
@@ -21,42 +27,57 @@ pub enum Item {
     },
 }
 
-impl Item {
-    pub fn start(&self) -> usize {
-        match self {
-            Item::Text { place, .. } => *place,
-            Item::Command { start, .. } | Item::RefusedCommand { start, .. } => *start,
-        }
-    }
+/// An item, the place where the next one starts, and what is remembered there.
+#[derive(Clone, Debug, PartialEq, Eq)]
+pub struct ItemRead {
+    pub item: Item,
+    pub next: usize,
+    pub remembered: Remembered,
 }
 
-/// All items of the bytes, taken as the whole, from a fresh remembered point on.
+/// All items of the bytes, taken as the whole, from what is remembered when fresh.
 pub fn items_of(bytes: &[u8]) -> Vec<Item> {
-    let mut items = Vec::new();
-    let mut remembered = Point::FRESH;
-    let mut place = 0;
-    while let Some(&byte) = bytes.get(place) {
-        let start = place;
-        if byte != ESC {
-            items.push(Item::Text { place, byte });
-            place += 1;
-            continue;
-        }
-        match read_command(bytes, start, remembered) {
-            Ok(found) => {
-                let command = found.value;
-                remembered = command.last_point().unwrap_or(remembered);
-                items.push(Item::Command { start, command });
-                place = found.next;
-            }
-            // "The remembered point after a refused command is that before it."
-            Err(refused) => {
-                items.push(Item::RefusedCommand { start, refused });
-                place = next_escape(bytes, refused.place);
-            }
-        }
+    let reads = items_from(bytes, Remembered::FRESH);
+    reads.map(|read| read.item).collect()
+}
+
+pub fn items_from(bytes: &[u8], remembered: Remembered) -> impl Iterator<Item = ItemRead> + '_ {
+    let first = item_at(bytes, 0, remembered);
+    successors(first, |read| item_at(bytes, read.next, read.remembered))
+}
+
+/// The item that starts at a place; none at the end.
+pub fn item_at(bytes: &[u8], start: usize, remembered: Remembered) -> Option<ItemRead> {
+    let place = start;
+    let item = match *bytes.get(place)? {
+        ESC => return Some(command_at(bytes, start, remembered)),
+        DEL if remembered.mode == DelMode::Filler => Item::Del { place },
+        byte => Item::Text { place, byte },
+    };
+    Some(ItemRead {
+        item,
+        next: place + 1,
+        remembered,
+    })
+}
+
+fn command_at(bytes: &[u8], start: usize, remembered: Remembered) -> ItemRead {
+    match read_command(bytes, start, remembered) {
+        Ok(found) => ItemRead {
+            next: found.next,
+            remembered: remembered.behind(&found.value),
+            item: Item::Command {
+                start,
+                command: found.value,
+            },
+        },
+        // "The remembered point after a refused command is that before it", and "a refused KI changes nothing".
+        Err(refused) => ItemRead {
+            item: Item::RefusedCommand { start, refused },
+            next: next_escape(bytes, refused.place),
+            remembered,
+        },
     }
-    items
 }
 
 /// "If the byte there is 27, reading starts again on it; otherwise bytes are passed over up to the next 27", or to the end
@@ -71,6 +92,7 @@ mod tests {
     use super::*;
     use crate::answers::Refusal;
     use crate::commands::Value;
+    use crate::points::Point;
 
     fn text(place: usize, byte: u8) -> Item {
         Item::Text { place, byte }

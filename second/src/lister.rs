@@ -34,9 +34,10 @@ pub fn listing_of(input: &[u8]) -> String {
     lines.iter().map(|line| format!("{line}\n")).collect()
 }
 
-fn line_of(item: &Item) -> String {
+pub fn line_of(item: &Item) -> String {
     match item {
         Item::Text { place, byte } => format!("T {place} {byte}"),
+        Item::Del { place } => format!("D {place}"),
         Item::Command { start, command } => line_of_command(*start, command),
         Item::RefusedCommand { start, refused } => line_of_refused(*start, *refused),
     }

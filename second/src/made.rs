@@ -1,25 +1,62 @@
-//! A made stream: eight times some text and a command.
+//! A made stream: eight times some text and a command. DELs strewn into bytes.
 
 use crate::commands::{spell_command, Command, Value};
 use crate::draws::Draws;
 use crate::forms::{Parameter, FORMS};
-use crate::parameters::ESC;
+use crate::parameters::{DEL, ESC};
 use crate::points::Point;
+use crate::remembered::{DelMode, Remembered};
 
 const PIECES: usize = 8;
 
+/// From what is remembered when fresh; a KI may change the mode on the way.
 pub fn made_stream(draws: &mut Draws) -> Vec<u8> {
+    pieces(draws, DelMode::Data, draw_command)
+}
+
+/// All of it in one mode: where a KI is drawn that would set it, KI 2 stands.
+pub fn made_in(draws: &mut Draws, mode: DelMode) -> Vec<u8> {
+    pieces(draws, mode, |draws, point| {
+        let command = draw_command(draws, point);
+        match command.mode_set() {
+            None => command,
+            Some(_) => Command {
+                values: vec![Value::Integer(2)],
+                ..command
+            },
+        }
+    })
+}
+
+fn pieces(
+    draws: &mut Draws,
+    mode: DelMode,
+    draw_command: fn(&mut Draws, Point) -> Command,
+) -> Vec<u8> {
     let mut stream = Vec::new();
-    let mut remembered = Point::FRESH;
+    let mut remembered = Remembered::fresh_in(mode);
     for _ in 0..PIECES {
         stream.extend(draw_text(draws));
-        let command = draw_command(draws, remembered);
+        let command = draw_command(draws, remembered.point);
         let spelling =
             spell_command(&command, remembered).expect("only what can be written is drawn");
         stream.extend(spelling);
-        remembered = command.last_point().unwrap_or(remembered);
+        remembered = remembered.behind(&command);
     }
     stream
+}
+
+/// One to three DELs behind one byte in four.
+pub fn strewn(draws: &mut Draws, bytes: &[u8]) -> Vec<u8> {
+    let mut strewn = Vec::new();
+    for &byte in bytes {
+        strewn.push(byte);
+        if draws.draw_from(4) == 0 {
+            let dels = 1 + draws.draw_below(3);
+            strewn.extend([DEL; 3].iter().take(dels));
+        }
+    }
+    strewn
 }
 
 /// "Where 27 is drawn the byte is 26."
@@ -103,7 +140,7 @@ fn draw_list<T>(draws: &mut Draws, draw_entry: fn(&mut Draws) -> T) -> Vec<T> {
 #[cfg(test)]
 mod tests {
     use super::*;
-    use crate::items::{items_of, Item};
+    use crate::items::{items_from, items_of, Item};
 
     #[test]
     fn the_first_pieces_by_hand() {
@@ -119,17 +156,39 @@ mod tests {
         assert_eq!(stream[..expected.len()], expected);
     }
 
+    /// Of all items.
+    fn commands_and_refused(items: &[Item]) -> (usize, usize) {
+        let commands = items
+            .iter()
+            .filter(|item| matches!(item, Item::Command { .. }));
+        let refused = items
+            .iter()
+            .filter(|item| matches!(item, Item::RefusedCommand { .. }));
+        (commands.count(), refused.count())
+    }
+
     #[test]
     fn a_made_stream_holds_eight_commands_and_nothing_refused() {
-        for x in 1..=100 {
+        for x in 1..=1000 {
             let items = items_of(&made_stream(&mut Draws::starting_with(x)));
-            let commands = items
-                .iter()
-                .filter(|item| matches!(item, Item::Command { .. }));
-            assert_eq!(commands.count(), 8);
-            assert!(!items
-                .iter()
-                .any(|item| matches!(item, Item::RefusedCommand { .. })));
+            assert_eq!(commands_and_refused(&items), (8, 0));
+        }
+    }
+
+    #[test]
+    fn a_stream_made_in_a_mode_stays_in_it() {
+        let mut draws = Draws::starting_with(1);
+        for _ in 0..1000 {
+            let plain = made_in(&mut draws, DelMode::Data);
+            let padded = made_in(&mut draws, DelMode::Filler);
+            let padded = strewn(&mut draws, &padded);
+            for (stream, mode) in [(plain, DelMode::Data), (padded, DelMode::Filler)] {
+                let reads = items_from(&stream, Remembered::fresh_in(mode));
+                let reads: Vec<_> = reads.collect();
+                assert!(reads.iter().all(|read| read.remembered.mode == mode));
+                let items: Vec<Item> = reads.into_iter().map(|read| read.item).collect();
+                assert_eq!(commands_and_refused(&items), (8, 0));
+            }
         }
     }
 

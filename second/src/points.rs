@@ -2,6 +2,7 @@
 
 use crate::answers::{put, Found, Reading, Refusal, Spelling, Writing};
 use crate::parameters::next_byte;
+use crate::remembered::Remembered;
 
 const GREATEST: u32 = 4095;
 
@@ -66,32 +67,33 @@ fn is_extra_or_lo_y(byte: u8) -> bool {
 }
 
 /// Reads HiY, Extra, LoY, HiX and LoX, those left out being "those of the last point".
-pub fn read_point(bytes: &[u8], start: usize, remembered: Point) -> Reading<Point> {
+pub fn read_point(bytes: &[u8], start: usize, remembered: Remembered) -> Reading<Point> {
     if !remembered.in_range() {
         return Err(Refusal::NotValid.at(0));
     }
-    let mut parts = Parts::of(remembered);
-    let mut byte = next_byte(bytes, start)?;
+    let mode = remembered.mode;
+    let mut parts = Parts::of(remembered.point);
+    let mut byte = next_byte(bytes, start, mode)?;
     if is_high(byte.value) {
         parts.hi_y = byte.value - 32;
-        byte = next_byte(bytes, byte.next)?;
+        byte = next_byte(bytes, byte.next, mode)?;
     }
     if is_extra_or_lo_y(byte.value) {
         // "Of two bytes 96..127 the first is Extra; a single one is LoY": only the byte behind it can tell.
         let first = byte.value;
-        byte = next_byte(bytes, byte.next)?;
+        byte = next_byte(bytes, byte.next, mode)?;
         if is_extra_or_lo_y(byte.value) {
             // "The 16 bit of Extra is ignored when read."
             parts.extra = (first - 96) & 15;
             parts.lo_y = byte.value - 96;
-            byte = next_byte(bytes, byte.next)?;
+            byte = next_byte(bytes, byte.next, mode)?;
         } else {
             parts.lo_y = first - 96;
         }
         // In here, as "HiX needs LoY before it".
         if is_high(byte.value) {
             parts.hi_x = byte.value - 32;
-            byte = next_byte(bytes, byte.next)?;
+            byte = next_byte(bytes, byte.next, mode)?;
         }
     }
     // "LoX is always present": whatever has not been taken by now must be it.
@@ -147,13 +149,20 @@ mod tests {
     const CORNER: Point = Point { x: 4095, y: 3071 };
     const OUTSIDE: Point = Point { x: 0, y: 4096 };
 
+    fn from(point: Point) -> Remembered {
+        Remembered {
+            point,
+            ..Remembered::FRESH
+        }
+    }
+
     fn refusal(bytes: &[u8]) -> (u32, usize) {
-        let refused = read_point(bytes, 0, ORIGIN).unwrap_err();
+        let refused = read_point(bytes, 0, from(ORIGIN)).unwrap_err();
         (refused.refusal.number(), refused.place)
     }
 
     fn xy(bytes: &[u8], remembered: Point) -> (u32, u32) {
-        let found = read_point(bytes, 0, remembered).unwrap();
+        let found = read_point(bytes, 0, from(remembered)).unwrap();
         assert_eq!((found.last, found.next), (bytes.len() - 1, bytes.len()));
         (found.value.x, found.value.y)
     }
@@ -221,7 +230,8 @@ mod tests {
                 Err(Refusal::NotValid)
             );
         }
-        assert_eq!(read_point(&[0], 5, OUTSIDE), Err(Refusal::NotValid.at(0)));
+        let read = read_point(&[0], 5, from(OUTSIDE));
+        assert_eq!(read, Err(Refusal::NotValid.at(0)));
     }
 
     #[test]

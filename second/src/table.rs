@@ -4,6 +4,7 @@ use std::fmt;
 
 use crate::digest::Digest;
 use crate::integers::{read_integer, write_integer};
+use crate::remembered::DelMode;
 
 struct Row {
     value: i32,
@@ -71,7 +72,7 @@ fn is_written_as_printed(row: &Row) -> bool {
 
 /// The bytes are the value "with nothing left over".
 fn reads_back(row: &Row) -> bool {
-    match read_integer(&row.bytes, 0) {
+    match read_integer(&row.bytes, 0, DelMode::Data) {
         Ok(found) => found.value == row.value && found.next == row.bytes.len(),
         Err(_) => false,
     }

@@ -3,6 +3,7 @@
 use crate::answers::{Reading, Writing};
 use crate::integers::{read_integer, write_integer};
 use crate::points::{write_point, Point};
+use crate::remembered::DelMode;
 use crate::reports::write_integer_report;
 
 const INTEGERS: [i32; 7] = [0, -1, 15, -16, 1200, 32767, -32768];
@@ -37,7 +38,7 @@ pub fn lines() -> Vec<String> {
             point.x, point.y, from.x, from.y
         ));
     }
-    let answer = read(read_integer(&ONE_TOO_MANY, 0));
+    let answer = read(read_integer(&ONE_TOO_MANY, 0, DelMode::Data));
     lines.push(format!("read {} = {answer}", in_decimal(&ONE_TOO_MANY)));
     lines
 }
@@ -92,6 +93,6 @@ read 96 64 48 = refusal 4 at 2";
     #[test]
     fn other_answers_are_shown_too() {
         assert_eq!(written(|bytes| write_integer(32768, bytes, 0)), "refusal 8");
-        assert_eq!(read(read_integer(&[33], 0)), "-1");
+        assert_eq!(read(read_integer(&[33], 0, DelMode::Data)), "-1");
     }
 }

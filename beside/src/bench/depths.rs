@@ -62,8 +62,16 @@ fn of_reports() -> Result<usize, String> {
 fn of_expanding() -> Result<usize, String> {
     let Stores { volatile, saved } = small_stores(14);
     let mut out = vec![0; 1 << 16];
+    let mut remembered = [0; 3];
     let mut counts = [0; 2];
     depth_of(&mut || {
-        archive::expand(&volatile, &saved, START, &mut out, &mut counts);
+        archive::expand(
+            &volatile,
+            &saved,
+            START,
+            &mut remembered,
+            &mut out,
+            &mut counts,
+        );
     })
 }

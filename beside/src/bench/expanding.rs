@@ -5,6 +5,7 @@ use super::stores::{full_store, LARGEST};
 use crate::archive;
 use crate::plain::expansion::{expand, Expanded};
 use crate::plain::refusals::Refusal;
+use crate::plain::remembered::Remembered;
 use crate::plain::store::define;
 use std::hint::black_box;
 
@@ -102,27 +103,33 @@ impl Expanding {
     }
 }
 
-type Expand = fn(&[u8], &[u8], i32, &mut [u8]) -> Result<Expanded, Refusal>;
+type Expand = fn(&[u8], &[u8], i32, &mut Remembered, &mut [u8]) -> Result<Expanded, Refusal>;
 
-fn archive_expand(stores: &Stores, number: i32, out: &mut [u8]) -> (u8, [usize; 2]) {
+/// From what is remembered when fresh; what is remembered then comes with the answer.
+fn archive_expand(stores: &Stores, number: i32, out: &mut [u8]) -> (u8, [usize; 2], [u16; 3]) {
+    let Stores { volatile, saved } = stores;
+    let mut remembered = Remembered::FRESH.numbers();
     let mut counts = [0; 2];
-    let refused = archive::expand(&stores.volatile, &stores.saved, number, out, &mut counts);
-    (refused, counts)
+    let refused = archive::expand(volatile, saved, number, &mut remembered, out, &mut counts);
+    (refused, counts, remembered)
 }
 
 /// Both programs expand a macro into so much room. What it then holds is handed back with the answer.
 fn compare_in(stores: &Stores, number: i32, room: usize) -> Result<(u8, [usize; 2]), String> {
     let mut outs = [vec![9; room], vec![9; room]];
-    let told = archive_expand(stores, number, &mut outs[0]);
-    let plain = match expand(&stores.volatile, &stores.saved, number, &mut outs[1]) {
+    let (refused, counts, remembered) = archive_expand(stores, number, &mut outs[0]);
+    let Stores { volatile, saved } = stores;
+    let mut kept = Remembered::FRESH;
+    let plain = match expand(volatile, saved, number, &mut kept, &mut outs[1]) {
         Ok(done) => (0, [done.written, done.entered]),
         Err(refusal) => (refusal.number(), [0; 2]),
     };
-    alike(told, plain, number)?;
+    alike((refused, counts), plain, number)?;
+    alike(remembered, kept.numbers(), number)?;
     if outs[0] != outs[1] {
         return Err(format!("{number}: what is written differs"));
     }
-    Ok(told)
+    Ok((refused, counts))
 }
 
 impl Job for Expanding {
@@ -154,6 +161,13 @@ impl Job for Expanding {
     fn run_plain(&mut self) {
         let expand = black_box(expand as Expand);
         let Stores { volatile, saved } = &self.stores;
-        let _ = black_box(expand(volatile, saved, START, &mut self.out));
+        let mut remembered = Remembered::FRESH;
+        let _ = black_box(expand(
+            volatile,
+            saved,
+            START,
+            &mut remembered,
+            &mut self.out,
+        ));
     }
 }

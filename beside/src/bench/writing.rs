@@ -4,8 +4,8 @@ use super::job::{alike, Job, Measured};
 use super::streams::{array_stream, mixed_stream, string_stream};
 use crate::archive;
 use crate::plain::items::{next_item, Item};
-use crate::plain::points::Point;
 use crate::plain::refusals::Refusal;
+use crate::plain::remembered::Remembered;
 use crate::plain::writing::write_command;
 use std::hint::black_box;
 
@@ -43,9 +43,9 @@ fn writing(stream: &[u8]) -> Box<dyn Job> {
     let commands = commands_of(stream);
     let mut bytes = 0;
     let mut out = [0; ROOM];
-    let mut point = Point::FRESH;
+    let mut remembered = Remembered::FRESH;
     for command in &commands {
-        bytes += plain_write(write_command, command, &mut point, &mut out)
+        bytes += plain_write(write_command, command, &mut remembered, &mut out)
             .expect("what was read can be written");
     }
     Box::new(Writing {
@@ -56,11 +56,11 @@ fn writing(stream: &[u8]) -> Box<dyn Job> {
 
 fn commands_of(stream: &[u8]) -> Vec<Written> {
     let mut commands = Vec::new();
-    let mut point = Point::FRESH;
+    let mut remembered = Remembered::FRESH;
     let mut list = [0; 256];
     let mut at = 0;
     loop {
-        let item = next_item(stream, at, &mut point, &mut list);
+        let item = next_item(stream, at, &mut remembered, &mut list);
         if let Item::Command { command, .. } = item {
             commands.push(Written {
                 letters: command.letters,
@@ -75,45 +75,55 @@ fn commands_of(stream: &[u8]) -> Vec<Written> {
     }
 }
 
-type Write = fn([u8; 2], &[i32; 4], &[i32], &mut Point, &mut [u8]) -> Result<usize, Refusal>;
+type Write = fn([u8; 2], &[i32; 4], &[i32], &mut Remembered, &mut [u8]) -> Result<usize, Refusal>;
 
 fn plain_write(
     write: Write,
     command: &Written,
-    point: &mut Point,
+    remembered: &mut Remembered,
     out: &mut [u8],
 ) -> Result<usize, Refusal> {
-    write(command.letters, &command.values, &command.list, point, out)
+    let Written {
+        letters,
+        values,
+        list,
+    } = command;
+    write(*letters, values, list, remembered, out)
 }
 
-fn archive_write(command: &Written, point: &mut [u16; 2], out: &mut [u8]) -> (u8, usize) {
+fn archive_write(command: &Written, remembered: &mut [u16; 3], out: &mut [u8]) -> (u8, usize) {
     let mut written = 0;
     let Written {
         letters,
         values,
         list,
     } = command;
-    let number = archive::write_command(*letters, values, list, point, out, &mut written);
+    let number = archive::write_command(*letters, values, list, remembered, out, &mut written);
     (number, written)
 }
 
-/// Both programs write a command into so much room, from the same point.
+/// Both programs write a command into so much room, from what the same is remembered.
 fn compare_in(
     command: &Written,
-    points: &mut (Point, [u16; 2]),
+    remembered: &mut (Remembered, [u16; 3]),
     room: usize,
 ) -> Result<(), String> {
     let name = String::from_utf8_lossy(&command.letters).into_owned();
-    let (point, archive_point) = points;
+    let (plain_remembered, archive_remembered) = remembered;
     let mut outs = [[9; ROOM], [9; ROOM]];
-    let archive = archive_write(command, archive_point, &mut outs[0][..room]);
-    let plain = match plain_write(write_command, command, point, &mut outs[1][..room]) {
+    let archive = archive_write(command, archive_remembered, &mut outs[0][..room]);
+    let plain = match plain_write(
+        write_command,
+        command,
+        plain_remembered,
+        &mut outs[1][..room],
+    ) {
         Ok(written) => (0, written),
         Err(refusal) => (refusal.number(), 0),
     };
     alike(archive, plain, &name)?;
     alike(outs[0], outs[1], &name)?;
-    alike(*archive_point, [point.x, point.y], &name)
+    alike(*archive_remembered, plain_remembered.numbers(), &name)
 }
 
 impl Job for Writing {
@@ -122,15 +132,15 @@ impl Job for Writing {
     }
 
     fn compare(&mut self) -> Result<(), String> {
-        let mut points = (Point::FRESH, [0; 2]);
+        let mut remembered = (Remembered::FRESH, Remembered::FRESH.numbers());
         for command in &self.commands {
-            let mut from = points;
+            let mut from = remembered;
             let length = 3 + command.list.len();
             for room in [0, 4, length] {
                 compare_in(command, &mut from, room)?;
-                from = points;
+                from = remembered;
             }
-            compare_in(command, &mut points, ROOM)?;
+            compare_in(command, &mut remembered, ROOM)?;
         }
         self.run_archive();
         let archive = self.out.clone();
@@ -143,10 +153,10 @@ impl Job for Writing {
     }
 
     fn run_archive(&mut self) {
-        let mut point = [0; 2];
+        let mut remembered = [0; 3];
         let mut at = 0;
         for command in &self.commands {
-            let (_, written) = archive_write(command, &mut point, &mut self.out[at..]);
+            let (_, written) = archive_write(command, &mut remembered, &mut self.out[at..]);
             at += written;
         }
         black_box(&self.out);
@@ -154,10 +164,10 @@ impl Job for Writing {
 
     fn run_plain(&mut self) {
         let write = black_box(write_command as Write);
-        let mut point = Point::FRESH;
+        let mut remembered = Remembered::FRESH;
         let mut at = 0;
         for command in &self.commands {
-            let written = plain_write(write, command, &mut point, &mut self.out[at..]);
+            let written = plain_write(write, command, &mut remembered, &mut self.out[at..]);
             at += written.unwrap_or(0);
         }
         black_box(&self.out);

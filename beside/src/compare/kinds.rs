@@ -4,6 +4,7 @@ use super::commands::{troubled_command, valid_command};
 use super::draws::Draws;
 use super::every;
 use super::expansions::expansion;
+use super::names::*;
 use super::reports::{
     integer_report_read, integer_report_written, string_report_read, string_report_written,
 };
@@ -25,8 +26,8 @@ pub struct Kind {
     pub numbers: &'static [u8],
     /// The orders that such a case can show.
     pub orders: &'static [Order],
-    /// What such a case can meet where it is done.
-    pub met: &'static [&'static str],
+    /// What such a case can meet, by groups.
+    pub met: &'static [&'static [Name]],
     pub making: Making,
 }
 
@@ -39,28 +40,31 @@ pub enum Making {
 }
 
 /// In the order of the table: how many cases of the fixed part, the numbers, the orders, and how a case is made and run.
-pub static KINDS: [Kind; 27] = [
+pub static KINDS: [Kind; 28] = [
     kind(
         "valid-streams",
         400_000,
         &[0],
         &[],
         Drawn(|draws, row| compared(valid_stream(draws), row)),
-    ),
+    )
+    .meeting(&[&WHERE_READ, &BY_KI]),
     kind(
         "damaged-streams",
         600_000,
         &[0, 1, 2, 3, 4, 5, 6],
         &[],
         Drawn(|draws, row| compared(damaged_stream(draws), row)),
-    ),
+    )
+    .meeting(&[&WHERE_READ, &WHERE_REFUSED, &BY_KI, &[KI_REFUSED]]),
     kind(
         "random-streams",
         800_000,
         &[0, 1, 2, 3, 4, 5, 6],
         &[],
         Drawn(|draws, row| compared(random_stream(draws), row)),
-    ),
+    )
+    .meeting(&[&WHERE_READ, &WHERE_REFUSED, &BY_KI, &[KI_REFUSED]]),
     kind(
         "single-items",
         2_000_000,
@@ -73,21 +77,29 @@ pub static KINDS: [Kind; 27] = [
             (6, &[7]),
         ],
         Drawn(|draws, row| compared(single_item(draws), row)),
-    ),
+    )
+    .meeting(&[
+        &WHERE_READ,
+        &WHERE_REFUSED,
+        &BY_KI,
+        &[KI_REFUSED, MODE_OUTSIDE],
+    ]),
     kind(
         "valid-commands",
         600_000,
         &[0],
         &[],
         Drawn(|draws, row| compared(valid_command(draws), row)),
-    ),
+    )
+    .meeting(&[&WHERE_WRITTEN, &BY_KI]),
     kind(
         "troubled-commands",
         1_200_000,
         &[0, 7, 8],
         &[(8, &[7])],
         Drawn(|draws, row| compared(troubled_command(draws), row)),
-    ),
+    )
+    .meeting(&[&WHERE_WRITTEN, &BY_KI, &[MODE_OUTSIDE]]),
     kind(
         "integer-reports-read",
         800_000,
@@ -130,7 +142,7 @@ pub static KINDS: [Kind; 27] = [
         &[(11, &[8, 9, 10]), (8, &[9, 10]), (9, &[8, 10])],
         Drawn(|draws, row| compared(surfaces(draws), row)),
     )
-    .meeting(&MET),
+    .meeting(&[&MET]),
     kind(
         "stores",
         800_000,
@@ -144,14 +156,15 @@ pub static KINDS: [Kind; 27] = [
         &[0, 7, 8, 12, 14, 15, 16, 17],
         &[
             (12, &[7, 8]),
-            (8, &[7, 15, 16]),
+            (8, &[7, 14, 15, 16]),
             (14, &[7]),
             (15, &[7, 16]),
             (16, &[7]),
             (17, &[7, 16]),
         ],
         Drawn(|draws, row| compared(expansion(draws), row)),
-    ),
+    )
+    .meeting(&[&WHERE_EXPANDED, &[MODE_OUTSIDE]]),
     kind(
         "look-ups",
         1_000_000,
@@ -166,28 +179,31 @@ pub static KINDS: [Kind; 27] = [
         &[],
         Counted(|number, row| compared(picture(number), row)),
     )
-    .meeting(&WAYS),
+    .meeting(&[&WAYS]),
     kind(
         "every-integer",
         every::INTEGERS,
         &[0, 3, 8],
         &[],
         Counted(every::integer),
-    ),
+    )
+    .meeting(&[&[AS_ITSELF, AS_DATA, PAIR_IN_INTEGER]]),
     kind(
         "every-count",
         every::COUNTS,
         &[0, 3, 8],
         &[],
         Counted(every::count),
-    ),
+    )
+    .meeting(&[&[AS_ITSELF, AS_DATA, PAIR_IN_STRING]]),
     kind(
         "every-count-read",
         every::COUNTS_READ,
         &[0, 5],
         &[],
         Counted(every::count_read),
-    ),
+    )
+    .meeting(&[&[BEFORE_PARAMETER, IN_INTEGER, BEFORE_PLACE]]),
     kind(
         "every-report",
         every::REPORTS,
@@ -208,28 +224,43 @@ pub static KINDS: [Kind; 27] = [
         &[0],
         &[],
         Counted(every::point),
-    ),
+    )
+    .meeting(&[&[AS_ITSELF, AS_DATA, PAIR_IN_POINT]]),
     kind(
         "coordinates-outside",
         every::POINTS_OUTSIDE,
         &[0, 3, 8],
         &[(8, &[3])],
         Counted(every::point_outside),
-    ),
+    )
+    .meeting(&[&[AS_ITSELF, AS_DATA, PAIR_IN_POINT]]),
+    kind(
+        "every-mode",
+        every::MODES,
+        &[0, 8],
+        &[],
+        Counted(every::mode),
+    )
+    .meeting(&[
+        &[AS_TEXT, AS_DATA, AN_ITEM, LAST_ITEM, BEFORE_PARAMETER],
+        &[AS_ITSELF, PAIR_IN_INTEGER, ITEM_COPIED, MODE_OUTSIDE],
+    ]),
     kind(
         "integer-bytes",
         every::SHORT_STRINGS,
         &[0, 1, 3, 4, 6],
         &[],
         Counted(every::integer_bytes),
-    ),
+    )
+    .meeting(&[&WHERE_REFUSED, &[AS_DATA, BEFORE_PARAMETER, IN_INTEGER]]),
     kind(
         "point-bytes",
         every::SHORT_STRINGS,
         &[0, 1, 3, 6],
         &[],
         Counted(every::point_bytes),
-    ),
+    )
+    .meeting(&[&WHERE_REFUSED, &[AS_DATA, BEFORE_PARAMETER, IN_POINT]]),
     kind(
         "report-bytes",
         every::SHORT_STRINGS,
@@ -243,7 +274,18 @@ pub static KINDS: [Kind; 27] = [
         &[0, 1, 3, 4, 5, 6],
         &[(4, &[5])],
         Counted(every::six_bytes),
-    ),
+    )
+    .meeting(&[
+        &WHERE_REFUSED,
+        &[
+            AS_DATA,
+            BEFORE_PARAMETER,
+            BEFORE_ENTRY,
+            IN_INTEGER,
+            IN_POINT,
+            IN_PAIR,
+        ],
+    ]),
 ];
 
 const fn kind(
@@ -264,7 +306,7 @@ const fn kind(
 }
 
 impl Kind {
-    const fn meeting(self, met: &'static [&'static str]) -> Kind {
+    const fn meeting(self, met: &'static [&'static [Name]]) -> Kind {
         Kind { met, ..self }
     }
 

@@ -4,6 +4,7 @@ use std::collections::BTreeMap;
 use std::fmt;
 
 use super::kinds::{Kind, Order};
+use super::names::Name;
 
 /// The numbers that the unit gives back, 0 to 17.
 pub const NUMBERS: usize = 18;
@@ -15,8 +16,8 @@ pub struct Row {
     answers: [u64; NUMBERS],
     /// By the number given, and by another whose reason was there too.
     orders: [[u64; NUMBERS]; NUMBERS],
-    /// By the name of what a call met that was done.
-    met: BTreeMap<&'static str, u64>,
+    /// By the name of what a call met.
+    met: BTreeMap<Name, u64>,
 }
 
 impl Default for Row {
@@ -44,14 +45,18 @@ impl Row {
     }
 
     /// Notes that a call was done, and what it met.
-    pub fn done(&mut self, met: &[&'static str]) {
+    pub fn done(&mut self, met: &[Name]) {
         self.answer(0);
+        self.meet_all(met);
+    }
+
+    pub fn meet_all(&mut self, met: &[Name]) {
         for &what in met {
             self.meet(what);
         }
     }
 
-    pub fn meet(&mut self, what: &'static str) {
+    pub fn meet(&mut self, what: Name) {
         *self.met.entry(what).or_default() += 1;
     }
 
@@ -79,12 +84,12 @@ impl Row {
     /// What a kind can give or meet and was not seen, and what was seen and cannot be.
     pub fn complaints(&self, kind: &Kind) -> Vec<String> {
         let mut complaints = self.complaints_of_numbers(kind.numbers, kind.orders);
-        for &what in kind.met {
+        for &what in kind.met.iter().copied().flatten() {
             let seen = self.met.get(what).copied().unwrap_or(0);
             complain(&mut complaints, seen, true, || what.to_string());
         }
         for (&what, &seen) in &self.met {
-            let can_be = kind.met.contains(&what);
+            let can_be = kind.met.iter().any(|names| names.contains(&what));
             complain(&mut complaints, seen, can_be, || what.to_string());
         }
         complaints
@@ -134,7 +139,7 @@ impl fmt::Display for Row {
             }
         }
         if !self.met.is_empty() {
-            write!(text, "\n    met where done:")?;
+            write!(text, "\n    met:")?;
         }
         for (what, &times) in &self.met {
             write_times(text, what, times)?;
@@ -166,7 +171,11 @@ mod tests {
         row
     }
 
-    fn kind(numbers: &'static [u8], orders: &'static [Order], met: &'static [&str]) -> Kind {
+    fn kind(
+        numbers: &'static [u8],
+        orders: &'static [Order],
+        met: &'static [&'static [Name]],
+    ) -> Kind {
         Kind {
             name: "sample",
             cases: 0,
@@ -208,7 +217,7 @@ mod tests {
         row.done(&[]);
         let mut sum = row.clone();
         sum.add(&row);
-        let shown = "0 cases, 6 answers: [0] 6\n    met where done: [96] 4 [96 first] 2";
+        let shown = "0 cases, 6 answers: [0] 6\n    met: [96] 4 [96 first] 2";
         assert_eq!(sum.to_string(), shown);
         assert_eq!(sum.answers_alone().to_string(), "0 cases, 6 answers: [0] 6");
     }
@@ -234,9 +243,9 @@ mod tests {
     fn what_was_not_met_is_named() {
         let mut row = Row::default();
         row.done(&["96"]);
-        assert!(row.complaints(&kind(&[0], &[], &["96"])).is_empty());
+        assert!(row.complaints(&kind(&[0], &[], &[&["96"]])).is_empty());
         assert_eq!(
-            row.complaints(&kind(&[0], &[], &["96 first"])),
+            row.complaints(&kind(&[0], &[], &[&["96 first"]])),
             ["96 first was not seen", "96 was seen and cannot be"]
         );
     }

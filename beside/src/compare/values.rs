@@ -6,12 +6,18 @@ use second::points::Point;
 
 use super::draws::Draws;
 
-const INTEGERS: [i32; 20] = [
-    0, 1, -1, 15, 16, -15, -16, 255, 256, 257, 1023, 1024, -1023, -1024, 16383, 16384, 32766,
-    32767, -32767, -32768,
+const INTEGERS: [i32; 22] = [
+    0, 1, -1, 15, 16, -15, -16, 255, 256, 257, 1007, 1008, 1023, 1024, -1023, -1024, 16383, 16384,
+    32766, 32767, -32767, -32768,
 ];
-const COORDINATES: [u32; 12] = [0, 1, 3, 4, 127, 128, 129, 2047, 2048, 4092, 4094, 4095];
+const COORDINATES: [u32; 14] = [
+    0, 1, 3, 4, 123, 124, 127, 128, 129, 2047, 2048, 4092, 4094, 4095,
+];
 const LONGEST: usize = 256;
+
+/// The integer with the most bytes, one of them 127.
+const LONG_INTEGER: i32 = 32767;
+const DEL: u8 = 127;
 
 pub fn draw_integer(draws: &mut Draws) -> i32 {
     match draws.below(4) {
@@ -72,6 +78,30 @@ fn draw_value(draws: &mut Draws, parameter: Parameter, last: Point) -> Value {
         Parameter::String => Value::String(draw_list(draws, draw_character)),
         Parameter::Array => Value::Array(draw_list(draws, draw_integer)),
         Parameter::Character => Value::Character(draw_character(draws)),
+    }
+}
+
+/// Any of the 21 commands with as many bytes as it may have, from the point (0,0).
+pub fn draw_longest(draws: &mut Draws) -> Command {
+    let form = &FORMS[draws.below(FORMS.len())];
+    let mut corners = [(4095, 4095), (0, 124)].into_iter();
+    let values = form.parameters.iter().map(|parameter| match parameter {
+        Parameter::Integer => Value::Integer(LONG_INTEGER),
+        Parameter::Point => {
+            let (x, y) = corners.next().expect("no command has more than two points");
+            Value::Point(Point { x, y })
+        }
+        Parameter::Real => Value::Real {
+            mantissa: LONG_INTEGER,
+            exponent: LONG_INTEGER,
+        },
+        Parameter::String => Value::String(vec![DEL; LONGEST]),
+        Parameter::Array => Value::Array(vec![LONG_INTEGER; LONGEST]),
+        Parameter::Character => Value::Character(DEL),
+    });
+    Command {
+        letters: form.letters,
+        values: values.collect(),
     }
 }
 

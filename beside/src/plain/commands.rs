@@ -3,6 +3,7 @@
 use super::integers::MOST_ENTRIES;
 use super::points::Point;
 use super::refusals::{refused, ReadingRefused, Refusal};
+use super::remembered::Remembered;
 use super::table::{begins_command, kind_of, Entry, Kind};
 use super::wire::{Reader, ESC};
 
@@ -16,11 +17,11 @@ pub struct Command {
     pub entries: usize,
 }
 
-impl Reader<'_> {
-    /// The point is set, and the list filled, once the whole command is known to be good.
+impl<const FILLER: bool> Reader<'_, FILLER> {
+    /// What is remembered is set, and the list filled, once the whole command is known to be good.
     pub fn command(
         &mut self,
-        point: &mut Point,
+        remembered: &mut Remembered,
         list: &mut [i32],
     ) -> Result<Command, ReadingRefused> {
         let start = self.at;
@@ -33,9 +34,14 @@ impl Reader<'_> {
             entries: 0,
         };
         match kind {
-            Kind::OnePoint | Kind::TwoPoints => *point = self.points(&mut command, *point)?,
+            Kind::OnePoint | Kind::TwoPoints => {
+                remembered.point = self.points(&mut command, remembered.point)?;
+            }
             Kind::AString | Kind::AnArray => {}
             _ => self.numbers(&mut command)?,
+        }
+        if letters == *b"KI" {
+            remembered.ignore_deletes(command.values[0]);
         }
         if let Some(entry) = kind.entries() {
             command.entries = self.list(entry, start, list)?;
@@ -56,6 +62,7 @@ impl Reader<'_> {
     }
 
     fn letter(&mut self) -> Result<u8, ReadingRefused> {
+        self.pass_fillers();
         match self.bytes.get(self.at) {
             None => refused(Refusal::BytesEnd, self.bytes.len()),
             Some(&ESC) => refused(Refusal::NewEscape, self.at),

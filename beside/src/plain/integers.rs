@@ -5,7 +5,7 @@ use super::wire::{Reader, Taken};
 
 pub const MOST_ENTRIES: usize = 256;
 
-impl Reader<'_> {
+impl<const FILLER: bool> Reader<'_, FILLER> {
     pub fn integer(&mut self) -> Result<i32, ReadingRefused> {
         Ok(self.placed_integer()?.0)
     }
@@ -82,7 +82,7 @@ mod tests {
     use super::*;
 
     fn read(bytes: &[u8]) -> Result<i32, ReadingRefused> {
-        Reader { bytes, at: 0 }.integer()
+        Reader::<false> { bytes, at: 0 }.integer()
     }
 
     #[test]

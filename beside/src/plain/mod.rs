@@ -8,6 +8,7 @@ pub mod pixels;
 pub mod points;
 pub mod record;
 pub mod refusals;
+pub mod remembered;
 pub mod store;
 pub mod table;
 pub mod wire;

@@ -49,7 +49,7 @@ fn coordinate(hi: u8, lo: u8, lowest: u8) -> u16 {
     u16::from(hi & 31) << 7 | u16::from(lo & 31) << 2 | u16::from(lowest & 3)
 }
 
-impl Reader<'_> {
+impl<const FILLER: bool> Reader<'_, FILLER> {
     pub fn point(&mut self, last: Point) -> Result<Point, ReadingRefused> {
         let mut bytes = PointBytes::of(last);
         let mut taken = self.take()?;
@@ -122,7 +122,7 @@ mod tests {
             let mut out = [0; 5];
             let length = spell_point(last, point, &mut out);
             assert_eq!(&out[..length], spelling);
-            let mut reader = Reader {
+            let mut reader = Reader::<false> {
                 bytes: spelling,
                 at: 0,
             };
@@ -132,7 +132,7 @@ mod tests {
 
     #[test]
     fn hi_x_needs_lo_y_before_it() {
-        let mut reader = Reader {
+        let mut reader = Reader::<false> {
             bytes: &[33, 34, 64],
             at: 0,
         };

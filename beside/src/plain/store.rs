@@ -56,13 +56,13 @@ fn check(store: &[u8]) -> Result<usize, Refusal> {
 }
 
 /// 12 for either store.
-fn check_both(volatile: &[u8], saved: &[u8]) -> Result<(), Refusal> {
+pub fn check_both(volatile: &[u8], saved: &[u8]) -> Result<(), Refusal> {
     check(volatile)?;
     check(saved)?;
     Ok(())
 }
 
-fn macro_number(number: i32) -> Result<usize, Refusal> {
+pub fn macro_number(number: i32) -> Result<usize, Refusal> {
     if !(0..=32767).contains(&number) {
         return Err(Refusal::NotValid);
     }

@@ -37,7 +37,8 @@ pub fn begins_command(first: u8) -> bool {
     matches!(first, b'I' | b'K' | b'L' | b'M' | b'N' | b'R')
 }
 
-/// Document 01 prints NX; the table of document 000 has NL, and wins.
+/// Document 01 prints NX; the table of document 000 has NL, and wins. It has a caller for each mode, and is to cost no more than with one.
+#[inline(always)]
 pub fn kind_of(letters: [u8; 2]) -> Option<Kind> {
     match &letters {
         b"KA" | b"KH" | b"KI" | b"KX" | b"LL" | b"LV" | b"NL" => Some(Kind::OneInteger),

@@ -5,10 +5,11 @@ use super::refusals::{refused, ReadingRefused, Refusal};
 pub const ESC: u8 = 27;
 
 /// "In a parameter, ESC followed by 63 reads as 127."
-const PAIRED: u8 = 63;
-const DEL: u8 = 127;
+pub const PAIRED: u8 = 63;
+pub const DEL: u8 = 127;
 
-pub struct Reader<'a> {
+/// Where `FILLER` is false a plain 127 is data. The code of each mode is its own, so that the one does not pay for the other.
+pub struct Reader<'a, const FILLER: bool> {
     pub bytes: &'a [u8],
     pub at: usize,
 }
@@ -20,8 +21,9 @@ pub struct Taken {
     pub place: usize,
 }
 
-impl Reader<'_> {
+impl<const FILLER: bool> Reader<'_, FILLER> {
     pub fn take(&mut self) -> Result<Taken, ReadingRefused> {
+        self.pass_fillers();
         let place = self.at;
         match self.bytes.get(place) {
             None => refused(Refusal::BytesEnd, self.bytes.len()),
@@ -36,14 +38,24 @@ impl Reader<'_> {
 
     /// "For the pair 27 63 the place is that of the 63."
     fn take_pair(&mut self) -> Result<Taken, ReadingRefused> {
-        let place = self.at + 1;
+        let escape = self.at;
+        self.at += 1;
+        self.pass_fillers();
+        let place = self.at;
         match self.bytes.get(place) {
             None => refused(Refusal::BytesEnd, self.bytes.len()),
             Some(&PAIRED) => {
-                self.at += 2;
+                self.at += 1;
                 Ok(Taken { byte: DEL, place })
             }
-            Some(_) => refused(Refusal::NewEscape, self.at),
+            Some(_) => refused(Refusal::NewEscape, escape),
+        }
+    }
+
+    /// The 127s from here on, where they are filler.
+    pub fn pass_fillers(&mut self) {
+        while FILLER && self.bytes.get(self.at) == Some(&DEL) {
+            self.at += 1;
         }
     }
 }

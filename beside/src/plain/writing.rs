@@ -3,24 +3,26 @@
 use super::integers::{integer_length, is_integer, spell_integer, MOST_ENTRIES};
 use super::points::{spell_point, Point};
 use super::refusals::Refusal;
+use super::remembered::{DelMode, Remembered};
 use super::table::{kind_of, Entry, Kind};
-use super::wire::ESC;
+use super::wire::{DEL, ESC, PAIRED};
 
-/// ESC, two letters, fixed parameters (two points have the most bytes, ten) and a count.
+/// ESC, two letters, fixed parameters (two points and three integers have the most bytes, twelve with pairs) and a count.
 const LONGEST_FRONT: usize = 16;
 
-/// What stands before the entries of a command.
-struct Front {
+/// What stands before the entries of a command. As in reading, the code of each mode is its own.
+struct Front<const FILLER: bool> {
     bytes: [u8; LONGEST_FRONT],
     length: usize,
 }
 
-impl Front {
+impl<const FILLER: bool> Front<FILLER> {
     fn integer(&mut self, value: i32) -> Result<(), Refusal> {
         if !is_integer(value) {
             return Err(Refusal::NotValid);
         }
-        self.length += spell_integer(value, &mut self.bytes[self.length..]);
+        let spelled = spell_integer(value, &mut self.bytes[self.length..]);
+        self.grow(spelled);
         Ok(())
     }
 
@@ -29,7 +31,7 @@ impl Front {
             return Err(Refusal::NotValid);
         }
         self.bytes[self.length] = value as u8;
-        self.length += 1;
+        self.grow(1);
         Ok(())
     }
 
@@ -41,46 +43,84 @@ impl Front {
             x: x as u16,
             y: y as u16,
         };
-        self.length += spell_point(last, point, &mut self.bytes[self.length..]);
+        let spelled = spell_point(last, point, &mut self.bytes[self.length..]);
+        self.grow(spelled);
         Ok(point)
+    }
+
+    /// By so many bytes that stand behind it. Where 127 is filler, the pair takes the place of each.
+    fn grow(&mut self, spelled: usize) {
+        let mut at = self.length;
+        self.length += spelled;
+        while FILLER && at < self.length {
+            if self.bytes[at] == DEL {
+                self.bytes.copy_within(at + 1..self.length, at + 2);
+                self.bytes[at] = ESC;
+                at += 1;
+                self.bytes[at] = PAIRED;
+                self.length += 1;
+            }
+            at += 1;
+        }
     }
 }
 
-/// The command to the front of `out`, and its length. The point is then that behind the command.
+/// The command to the front of `out`, and its length. What is remembered is then that behind the command.
 pub fn write_command(
     letters: [u8; 2],
     values: &[i32; 4],
     list: &[i32],
-    point: &mut Point,
+    remembered: &mut Remembered,
+    out: &mut [u8],
+) -> Result<usize, Refusal> {
+    match remembered.mode {
+        DelMode::Data => write_in_mode::<false>(letters, values, list, remembered, out),
+        DelMode::Filler => write_in_mode::<true>(letters, values, list, remembered, out),
+    }
+}
+
+fn write_in_mode<const FILLER: bool>(
+    letters: [u8; 2],
+    values: &[i32; 4],
+    list: &[i32],
+    remembered: &mut Remembered,
     out: &mut [u8],
 ) -> Result<usize, Refusal> {
     let kind = kind_of(letters).ok_or(Refusal::NotValid)?;
-    if !point.is_inside() {
+    if !remembered.point.is_inside() {
         return Err(Refusal::NotValid);
     }
-    let mut front = Front {
+    let mut front: Front<FILLER> = Front {
         bytes: [0; LONGEST_FRONT],
         length: 3,
     };
     front.bytes[..3].copy_from_slice(&[ESC, letters[0], letters[1]]);
-    let after = spell_values(kind, values, *point, &mut front)?;
+    let after = spell_values(kind, values, remembered.point, &mut front)?;
     let tail = spell_count(kind, list, &mut front)?;
     let length = front.length + tail;
     if length > out.len() {
         return Err(Refusal::TooShort);
     }
     out[..front.length].copy_from_slice(&front.bytes[..front.length]);
-    spell_entries(kind, list, &mut out[front.length..length]);
-    *point = after;
+    let place = &mut out[front.length..length];
+    match kind.entries() {
+        None => {}
+        Some(entry) if FILLER => spell_entries_with_pairs(entry, list, place),
+        Some(entry) => spell_entries(entry, list, place),
+    }
+    remembered.point = after;
+    if letters == *b"KI" {
+        remembered.ignore_deletes(values[0]);
+    }
     Ok(length)
 }
 
 /// The fixed parameters; the point behind them is handed back.
-fn spell_values(
+fn spell_values<const FILLER: bool>(
     kind: Kind,
     values: &[i32; 4],
     point: Point,
-    front: &mut Front,
+    front: &mut Front<FILLER>,
 ) -> Result<Point, Refusal> {
     match kind {
         Kind::OneInteger | Kind::IntegerThenArray | Kind::IntegerThenString => {
@@ -110,7 +150,11 @@ fn spell_values(
 }
 
 /// The count of a string or an array; how many bytes its entries take is handed back.
-fn spell_count(kind: Kind, list: &[i32], front: &mut Front) -> Result<usize, Refusal> {
+fn spell_count<const FILLER: bool>(
+    kind: Kind,
+    list: &[i32],
+    front: &mut Front<FILLER>,
+) -> Result<usize, Refusal> {
     let Some(entry) = kind.entries() else {
         return Ok(0);
     };
@@ -122,26 +166,56 @@ fn spell_count(kind: Kind, list: &[i32], front: &mut Front) -> Result<usize, Ref
         return Err(Refusal::NotValid);
     }
     front.integer(list.len() as i32)?;
-    Ok(match entry {
+    let bytes = match entry {
         Entry::Character => list.len(),
         Entry::Integer => list.iter().map(|&value| integer_length(value)).sum(),
+    };
+    let has_del = |value: &&i32| match entry {
+        Entry::Character => **value == i32::from(DEL),
+        Entry::Integer => value.unsigned_abs() >> 4 & 63 == 63,
+    };
+    Ok(match FILLER {
+        false => bytes,
+        true => bytes + list.iter().filter(has_del).count(),
     })
 }
 
 /// The entries into a place that is as long as they are.
-fn spell_entries(kind: Kind, list: &[i32], out: &mut [u8]) {
-    match kind.entries() {
-        None => {}
-        Some(Entry::Character) => {
+fn spell_entries(entry: Entry, list: &[i32], out: &mut [u8]) {
+    match entry {
+        Entry::Character => {
             for (byte, &value) in out.iter_mut().zip(list) {
                 *byte = value as u8;
             }
         }
-        Some(Entry::Integer) => {
+        Entry::Integer => {
             let mut at = 0;
             for &value in list {
                 at += spell_integer(value, &mut out[at..]);
             }
+        }
+    }
+}
+
+/// The same where 127 is filler.
+fn spell_entries_with_pairs(entry: Entry, list: &[i32], out: &mut [u8]) {
+    let mut at = 0;
+    for value in list {
+        let mut bytes = [0; 3];
+        let length = match entry {
+            Entry::Character => {
+                bytes[0] = *value as u8;
+                1
+            }
+            Entry::Integer => spell_integer(*value, &mut bytes),
+        };
+        for &byte in &bytes[..length] {
+            if byte == DEL {
+                out[at] = ESC;
+                at += 1;
+            }
+            out[at] = if byte == DEL { PAIRED } else { byte };
+            at += 1;
         }
     }
 }
@@ -154,10 +228,20 @@ fn is_character(value: i32) -> bool {
 mod tests {
     use super::*;
 
-    fn write(letters: &[u8; 2], values: [i32; 4], list: &[i32]) -> Result<Vec<u8>, Refusal> {
+    fn write_in(
+        mode: DelMode,
+        letters: &[u8; 2],
+        values: [i32; 4],
+        list: &[i32],
+    ) -> Result<Vec<u8>, Refusal> {
         let mut out = [0; 20];
-        let length = write_command(*letters, &values, list, &mut Point { x: 0, y: 0 }, &mut out)?;
+        let mut remembered = Remembered::fresh_in(mode);
+        let length = write_command(*letters, &values, list, &mut remembered, &mut out)?;
         Ok(out[..length].to_vec())
+    }
+
+    fn write(letters: &[u8; 2], values: [i32; 4], list: &[i32]) -> Result<Vec<u8>, Refusal> {
+        write_in(DelMode::Data, letters, values, list)
     }
 
     #[test]
@@ -172,15 +256,34 @@ mod tests {
     }
 
     #[test]
+    fn where_127_is_filler_the_pair_is_written() {
+        for (letters, values, list, parameters) in [
+            (b"KA", [32767, 0, 0, 0], &[][..], &[95, 27, 63, 63][..]),
+            (b"RS", [0, 124, 4, 0], &[], &[27, 63, 64, 96, 65]),
+            (b"IQ", [127, 63, 0, 0], &[], &[27, 63, 63]),
+            (b"LT", [0; 4], &[127, 63], &[50, 27, 63, 63]),
+            (b"RL", [0; 4], &[1023, -1008], &[50, 27, 63, 63, 27, 63, 32]),
+        ] {
+            let written = write_in(DelMode::Filler, letters, values, list);
+            let expected = [&[27], &letters[..], parameters].concat();
+            assert_eq!(written, Ok(expected));
+        }
+    }
+
+    #[test]
     fn eight_comes_before_seven_and_neither_touches_what_is_lent() {
-        let mut point = Point { x: 1, y: 2 };
+        let point = Point { x: 1, y: 2 };
+        let mut remembered = Remembered {
+            point,
+            ..Remembered::FRESH
+        };
         let mut out = [9; 4];
         let mut write =
-            |x, out: &mut [u8]| write_command(*b"LF", &[x, 0, 0, 0], &[], &mut point, out);
+            |x, out: &mut [u8]| write_command(*b"LF", &[x, 0, 0, 0], &[], &mut remembered, out);
         assert_eq!(write(4096, &mut []), Err(Refusal::NotValid));
         assert_eq!(write(4095, &mut out), Err(Refusal::TooShort));
         assert_eq!(out, [9; 4]);
-        assert_eq!(point, Point { x: 1, y: 2 });
+        assert_eq!(remembered.point, point);
     }
 
     #[test]

@@ -1,10 +1,13 @@
 //! The commands that are written: valid ones, and ones with up to three things wrong.
 
-use second::points::Point;
+use second::commands::Command;
+use second::remembered::{DelMode, Remembered};
 
 use super::writing::Writing;
 use crate::compare::draws::Draws;
-use crate::compare::values::{draw_command, draw_integer, four, numbers_and_list};
+use crate::compare::remembered::{draw_inside, numbers_of, put_outside};
+use crate::compare::streams::draw_ki;
+use crate::compare::values::{draw_command, draw_integer, draw_longest, four, numbers_and_list};
 
 const ODD_VALUES: [i32; 14] = [
     -1,
@@ -22,20 +25,18 @@ const ODD_VALUES: [i32; 14] = [
     i32::MIN,
     i32::MAX,
 ];
-const ODD_COORDINATES: [u16; 4] = [4095, 4096, 8191, 65535];
 const MORE_ROOM: usize = 6;
 
 /// With room enough.
 pub fn valid_command(draws: &mut Draws) -> Writing {
-    let point = [draws.below(4096) as u16, draws.below(4096) as u16];
-    let [x, y] = point.map(u32::from);
-    let command = draw_command(draws, Point { x, y });
+    let mode = draws.one_of(&[DelMode::Data, DelMode::Filler]);
+    let (remembered, command) = draw_from(draws, mode);
     let (numbers, list) = numbers_and_list(&command);
     let mut writing = Writing {
         letters: command.letters,
         values: four(&numbers),
         list,
-        point,
+        remembered: numbers_of(remembered),
         room: 0,
     };
     writing.room = writing.spelling().map_or(0, |spelling| spelling.len()) + draws.below(MORE_ROOM);
@@ -44,6 +45,18 @@ pub fn valid_command(draws: &mut Draws) -> Writing {
         *value = draws.any_integer();
     }
     writing
+}
+
+/// A command, and what is remembered before it: now and then KI, or a command with as many bytes as it may have.
+fn draw_from(draws: &mut Draws, mode: DelMode) -> (Remembered, Command) {
+    match draws.below(128) {
+        0 => (Remembered::fresh_in(mode), draw_longest(draws)),
+        1..=4 => (draw_inside(draws, mode), draw_ki(draws)),
+        _ => {
+            let remembered = draw_inside(draws, mode);
+            (remembered, draw_command(draws, remembered.point))
+        }
+    }
 }
 
 pub fn troubled_command(draws: &mut Draws) -> Writing {
@@ -58,7 +71,7 @@ fn trouble(draws: &mut Draws, writing: &mut Writing) {
     match draws.below(8) {
         0 => writing.letters[draws.below(2)] = draw_letter(draws),
         1..=2 => writing.values[draws.below(4)] = draw_value(draws),
-        3 => writing.point[draws.below(2)] = draws.one_of(&ODD_COORDINATES),
+        3 => put_outside(draws, &mut writing.remembered),
         4 => lengthen(draws, &mut writing.list),
         5 => {
             let place = draws.below(writing.list.len().max(1));

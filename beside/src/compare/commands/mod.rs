@@ -1,6 +1,7 @@
 //! Commands written.
 
 mod making;
+mod pairs;
 mod writing;
 
 pub use making::{troubled_command, valid_command};

@@ -7,9 +7,12 @@ use second::commands::{spell_command, Command, Value};
 use second::forms::{form_of, Parameter};
 use second::points::Point;
 
+use super::pairs::met;
 use crate::archive;
 use crate::compare::case::{in_decimal, labelled, same, untouched, Case, Difference};
 use crate::compare::fence::{Fenced, Junk};
+use crate::compare::names::Name;
+use crate::compare::remembered::{met_outside, numbers_of, remembered_from};
 use crate::compare::shrinking::{lesser, lower, lowered_array, with_each};
 use crate::compare::tally::Row;
 
@@ -21,7 +24,7 @@ pub struct Writing {
     pub letters: [u8; 2],
     pub values: [i32; 4],
     pub list: Vec<i32>,
-    pub point: [u16; 2],
+    pub remembered: [u16; 3],
     pub room: usize,
 }
 
@@ -30,8 +33,15 @@ pub struct Writing {
 struct Written {
     number: u8,
     written: usize,
-    point: [u16; 2],
+    remembered: [u16; 3],
     out: Fenced<u8>,
+}
+
+/// The bytes, whatever the room, what is remembered then, and what was met on the way.
+struct Spelled {
+    bytes: Vec<u8>,
+    remembered: [u16; 3],
+    met: Vec<Name>,
 }
 
 impl Writing {
@@ -39,53 +49,62 @@ impl Writing {
         let mut said = Written {
             number: 0,
             written: usize::JUNK,
-            point: self.point,
+            remembered: self.remembered,
             out: Fenced::room(self.room),
         };
         said.number = archive::write_command(
             self.letters,
             &self.values,
             list,
-            &mut said.point,
+            &mut said.remembered,
             said.out.lent(),
             &mut said.written,
         );
         said
     }
 
-    fn by_second(&self) -> Written {
+    /// The answer, and what was met on the way.
+    fn by_second(&self) -> (Written, Vec<Name>) {
         let mut out = Fenced::room(self.room);
-        let answer = self
-            .spelled()
-            .and_then(|(spelling, point)| Ok((put(&spelling, out.lent(), 0)?, point)));
-        match answer {
-            Ok((written, point)) => Written {
-                number: 0,
-                written,
-                point,
-                out,
-            },
-            Err(refusal) => Written {
-                number: refusal.number() as u8,
-                written: 0,
-                point: self.point,
-                out,
-            },
+        let spelled = self.spelled().and_then(|spelled| {
+            put(&spelled.bytes, out.lent(), 0)?;
+            Ok(spelled)
+        });
+        match spelled {
+            Ok(spelled) => {
+                let written = Written {
+                    number: 0,
+                    written: spelled.bytes.len(),
+                    remembered: spelled.remembered,
+                    out,
+                };
+                (written, spelled.met)
+            }
+            Err(refusal) => {
+                let written = Written {
+                    number: refusal.number() as u8,
+                    written: 0,
+                    remembered: self.remembered,
+                    out,
+                };
+                (written, met_outside(self.remembered))
+            }
         }
     }
 
-    /// The bytes, whatever the room, and the point that is remembered then.
-    fn spelled(&self) -> Result<(Vec<u8>, [u16; 2]), Refusal> {
-        let [x, y] = self.point.map(u32::from);
-        let remembered = Point { x, y };
+    fn spelled(&self) -> Result<Spelled, Refusal> {
+        let before = remembered_from(self.remembered).ok_or(Refusal::NotValid)?;
         let command = self.command().ok_or(Refusal::NotValid)?;
-        let spelling = spell_command(&command, remembered)?;
-        let last = command.last_point().unwrap_or(remembered);
-        Ok((spelling, [last.x as u16, last.y as u16]))
+        let bytes = spell_command(&command, before)?;
+        Ok(Spelled {
+            met: met(&command, before.mode, &bytes),
+            remembered: numbers_of(before.behind(&command)),
+            bytes,
+        })
     }
 
     pub fn spelling(&self) -> Option<Vec<u8>> {
-        self.spelled().ok().map(|(spelling, _)| spelling)
+        self.spelled().ok().map(|spelled| spelled.bytes)
     }
 
     /// None for letters that are no command's, and for what cannot even be named: a coordinate below 0, a character that is no byte.
@@ -120,7 +139,7 @@ impl Writing {
 impl Case for Writing {
     fn run(&self, row: &mut Row) -> Result<(), Difference> {
         let list = self.list.clone();
-        let second = self.by_second();
+        let (second, met) = self.by_second();
         same(
             || "ardh_write_command".to_string(),
             &self.by_archive(&list),
@@ -128,6 +147,7 @@ impl Case for Writing {
         )?;
         let is_short = second.number > 0 && self.room < SHORTEST;
         row.refusal(second.number, if is_short { &[7] } else { &[] });
+        row.meet_all(&met);
         untouched("the entries", &list, &self.list)
     }
 
@@ -138,8 +158,8 @@ impl Case for Writing {
             with_each(self, lowered_array(self.values), |case, values| {
                 case.values = values
             }),
-            with_each(self, lowered_array(self.point), |case, point| {
-                case.point = point
+            with_each(self, lowered_array(self.remembered), |case, remembered| {
+                case.remembered = remembered
             }),
         ]
         .concat()
@@ -152,7 +172,7 @@ impl fmt::Display for Writing {
             ("letters", in_decimal(&self.letters)),
             ("values", in_decimal(&self.values)),
             ("list", in_decimal(&self.list)),
-            ("point", in_decimal(&self.point)),
+            ("remembered", in_decimal(&self.remembered)),
             ("room in out", self.room.to_string()),
         ];
         labelled(text, "A command written.", &lines)
@@ -163,10 +183,10 @@ impl fmt::Display for Written {
     fn fmt(&self, text: &mut fmt::Formatter) -> fmt::Result {
         write!(
             text,
-            "returns {}; written {}; point {}; out {}",
+            "returns {}; written {}; remembered {}; out {}",
             self.number,
             self.written,
-            in_decimal(&self.point),
+            in_decimal(&self.remembered),
             self.out
         )
     }
@@ -181,34 +201,34 @@ mod tests {
             letters: *letters,
             values,
             list: list.to_vec(),
-            point: [0, 0],
+            remembered: [0, 0, 0],
             room,
         };
-        writing.by_second().to_string()
+        writing.by_second().0.to_string()
     }
 
     #[test]
     fn a_command_is_made_of_values_and_list() {
         assert_eq!(
             written(b"LF", [0, 100, -1, -1], &[-1; 300], 6),
-            "returns 0; written 5; point 0 100; out 27 76 70 121 64 (1 not written)"
+            "returns 0; written 5; remembered 0 100 0; out 27 76 70 121 64 (1 not written)"
         );
         assert_eq!(
             written(b"RP", [4, 0, 0, 0], &[42, 60], 7),
-            "returns 0; written 7; point 0 0; out 27 82 80 52 50 42 60"
+            "returns 0; written 7; remembered 0 0 0; out 27 82 80 52 50 42 60"
         );
     }
 
     #[test]
     fn what_is_outside_is_refused_before_the_room() {
-        let refused = "returns 8; written 0; point 0 0; out (no room)";
+        let refused = "returns 8; written 0; remembered 0 0 0; out (no room)";
         assert_eq!(written(b"NX", [0; 4], &[], 0), refused);
         assert_eq!(written(b"LF", [-1, 0, 0, 0], &[], 0), refused);
         assert_eq!(written(b"LF", [0, 4096, 0, 0], &[], 0), refused);
         assert_eq!(written(b"IQ", [65, 300, 0, 0], &[], 0), refused);
         assert_eq!(written(b"LT", [0; 4], &[65 + 256], 0), refused);
         assert_eq!(written(b"RD", [0; 4], &[0; 257], 0), refused);
-        let short = "returns 7; written 0; point 0 0; out (3 not written)";
+        let short = "returns 7; written 0; remembered 0 0 0; out (3 not written)";
         assert_eq!(written(b"KA", [0; 4], &[], 3), short);
     }
 }

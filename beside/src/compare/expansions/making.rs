@@ -4,12 +4,14 @@ use std::collections::BTreeMap;
 
 use second::answers::Refusal;
 use second::parameters::ESC;
+use second::remembered::DelMode;
 
 use super::bodies::{
     call, call_of_number, calls_that_enter, draw_body, draw_text, DEFINED, NUMBERS,
 };
 use super::expanding::Expansion;
 use crate::compare::draws::Draws;
+use crate::compare::remembered::{draw_mode, draw_remembered, remembered_from};
 use crate::compare::stores::{store_of, Pair, OUTSIDE};
 
 const LONGEST: usize = 256;
@@ -21,11 +23,12 @@ const ABSENT: usize = 14;
 type Bodies = (Vec<Vec<u8>>, Option<(u8, u8)>);
 
 pub fn expansion(draws: &mut Draws) -> Expansion {
+    let mode = draw_mode(draws);
     let (bodies, order) = match draws.below(32) {
-        0 => tree(draws),
-        1..=8 => chain(draws),
-        9..=14 => (any_bodies(draws, true), None),
-        _ => (any_bodies(draws, false), None),
+        0 => tree(draws, mode),
+        1..=8 => chain(draws, mode),
+        9..=14 => (any_bodies(draws, true, mode), None),
+        _ => (any_bodies(draws, false, mode), None),
     };
     let mut stores = draw_stores(draws, &bodies);
     stores.spoil(draws, 32);
@@ -34,11 +37,14 @@ pub fn expansion(draws: &mut Draws) -> Expansion {
         1..=3 => draws.one_of(&NUMBERS),
         _ => NUMBERS[0],
     };
+    let remembered = draw_remembered(draws, mode, 24);
+    let is_made = number == NUMBERS[0] && remembered_from(remembered).is_some();
     let mut case = Expansion {
         stores,
         number,
+        remembered,
         room: 0,
-        order: order.filter(|_| number == NUMBERS[0]),
+        order: order.filter(|_| is_made),
     };
     case.room = draw_room(draws, &case);
     case
@@ -80,20 +86,23 @@ fn length_of(case: &Expansion) -> Option<usize> {
     expanded.ok().map(|expanded| expanded.bytes)
 }
 
-fn any_bodies(draws: &mut Draws, is_anywhere: bool) -> Vec<Vec<u8>> {
+fn any_bodies(draws: &mut Draws, is_anywhere: bool, mode: DelMode) -> Vec<Vec<u8>> {
     let defined = 1 + draws.below(DEFINED);
-    let bodies = (0..defined).map(|index| draw_body(draws, index, is_anywhere));
+    let bodies = (0..defined).map(|index| draw_body(draws, index, is_anywhere, mode));
     bodies.collect()
 }
 
 /// Each calls the next; the last ends in something of interest. With eight of them that is at depth 8.
-fn chain(draws: &mut Draws) -> Bodies {
+fn chain(draws: &mut Draws, mode: DelMode) -> Bodies {
     let length = DEEPEST - 2 + draws.below(5);
     let mut bodies: Vec<Vec<u8>> = (1..length)
-        .map(|next| [draw_text(draws), call(draws, next), draw_text(draws)].concat())
+        .map(|next| {
+            let texts = [draw_text(draws, mode), draw_text(draws, mode)];
+            [&texts[0][..], &call(draws, next, mode), &texts[1]].concat()
+        })
         .collect();
     let ending = draws.below(6);
-    let last = [draw_text(draws), draw_ending(draws, ending)].concat();
+    let last = [draw_text(draws, mode), draw_ending(draws, ending, mode)].concat();
     bodies.push(last);
     let is_negative = ending == NEGATIVE && length == DEEPEST;
     (bodies, is_negative.then_some((8, 15)))
@@ -101,20 +110,20 @@ fn chain(draws: &mut Draws) -> Bodies {
 
 const NEGATIVE: usize = 0;
 
-fn draw_ending(draws: &mut Draws, ending: usize) -> Vec<u8> {
+fn draw_ending(draws: &mut Draws, ending: usize, mode: DelMode) -> Vec<u8> {
     match ending {
-        NEGATIVE => call_of_number(draws, -1),
+        NEGATIVE => call_of_number(draws, -1, mode),
         1 => vec![ESC],
-        2 => call(draws, ABSENT),
-        3 => call(draws, 5),
+        2 => call(draws, ABSENT, mode),
+        3 => call(draws, 5, mode),
         4 => vec![65],
-        _ => call(draws, 0),
+        _ => call(draws, 0, mode),
     }
 }
 
 /// The root enters about 1,024 macros by its calls of 1 to 5, and then ends in something of interest: where they were just so many,
 /// a call that is refused for two reasons at once.
-fn tree(draws: &mut Draws) -> Bodies {
+fn tree(draws: &mut Draws, mode: DelMode) -> Bodies {
     let with_chain = draws.one_in(2);
     // The chain goes from depth 2 to depth 8, and a call in its last body is too deep.
     let behind = if with_chain { DEEPEST - 1 } else { 0 };
@@ -123,17 +132,17 @@ fn tree(draws: &mut Draws) -> Bodies {
         0 => around,
         _ => around - 4 + draws.below(9),
     };
-    let mut root = calls_that_enter(draws, below);
+    let mut root = calls_that_enter(draws, below, mode);
     let ending = draws.below(6);
     root.extend(match with_chain {
-        true => call(draws, 6),
-        false => draw_ending(draws, ending),
+        true => call(draws, 6, mode),
+        false => draw_ending(draws, ending, mode),
     });
     let mut bodies = vec![root];
-    bodies.extend((2..6).map(|next| call(draws, next).repeat(4)));
+    bodies.extend((2..6).map(|next| call(draws, next, mode).repeat(4)));
     bodies.push(vec![65]);
-    bodies.extend((7..13).map(|next| call(draws, next)));
-    bodies.push(call(draws, 5));
+    bodies.extend((7..13).map(|next| call(draws, next, mode)));
+    bodies.push(call(draws, 5, mode));
     let order = match (with_chain, below == around) {
         (true, true) => Some((15, 16)),
         (false, true) if ending == NEGATIVE => Some((8, 16)),

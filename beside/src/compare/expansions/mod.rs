@@ -3,5 +3,7 @@
 mod bodies;
 mod expanding;
 mod making;
+mod watching;
 
+pub use expanding::Expansion;
 pub use making::expansion;

@@ -5,33 +5,36 @@ use std::fmt;
 use second::answers::ReadingRefused;
 use second::commands::Command;
 use second::forms::{form_of, Parameter};
+use second::items::{Item, ItemRead};
 
 use crate::archive;
 use crate::compare::case::in_decimal;
 use crate::compare::fence::{Fenced, Junk};
+use crate::compare::remembered::numbers_of;
 use crate::compare::values::{four, numbers_and_list};
 
 const TEXT: usize = 1;
 const COMMAND: usize = 2;
 const REFUSED_COMMAND: usize = 3;
 const REFUSED_CALL: usize = 4;
+const DEL_ITEM: usize = 5;
 
 #[derive(Clone, Debug, PartialEq)]
 pub struct Read {
     pub number: u8,
     item: [usize; 7],
     values: [i32; 4],
-    pub point: [u16; 2],
+    pub remembered: [u16; 3],
     list: Fenced<i32>,
 }
 
 impl Read {
-    pub fn before(point: [u16; 2], room: usize) -> Read {
+    pub fn before(remembered: [u16; 3], room: usize) -> Read {
         Read {
             number: 0,
             item: [0; 7],
             values: [0; 4],
-            point,
+            remembered,
             list: Fenced::room(room),
         }
     }
@@ -42,7 +45,7 @@ impl Read {
         self.number = archive::next_item(
             bytes,
             start,
-            &mut self.point,
+            &mut self.remembered,
             self.list.lent(),
             &mut self.item,
             &mut self.values,
@@ -56,25 +59,34 @@ impl Read {
         self.values = [0; 4];
     }
 
-    pub fn text(&mut self, byte: u8, next: usize) {
-        self.none_left();
-        self.item = [TEXT, next, 0, usize::from(byte), 0, 0, 0];
+    /// An item that the second program has read.
+    pub fn take(&mut self, read: &ItemRead) {
+        let next = read.next;
+        match &read.item {
+            Item::Text { byte, .. } => self.answer([TEXT, next, 0, usize::from(*byte), 0, 0, 0]),
+            Item::Del { .. } => self.answer([DEL_ITEM, next, 0, 0, 0, 0, 0]),
+            Item::Command { start, command } => self.command(command, *start, read),
+            Item::RefusedCommand { refused, .. } => self.refused(*refused, next),
+        }
     }
 
-    pub fn refused(&mut self, refused: ReadingRefused, next: usize) {
+    fn answer(&mut self, item: [usize; 7]) {
         self.none_left();
+        self.item = item;
+    }
+
+    fn refused(&mut self, refused: ReadingRefused, next: usize) {
+        self.answer([REFUSED_COMMAND, next, refused.place, 0, 0, 0, 0]);
         self.number = refused.refusal.number() as u8;
-        self.item = [REFUSED_COMMAND, next, refused.place, 0, 0, 0, 0];
     }
 
     pub fn not_read(&mut self, number: u8, place: usize) {
-        self.none_left();
+        self.answer([REFUSED_CALL, 0, place, 0, 0, 0, 0]);
         self.number = number;
-        self.item = [REFUSED_CALL, 0, place, 0, 0, 0, 0];
     }
 
     /// A whole command, or 7 where the lent list is too short for its entries.
-    pub fn command(&mut self, command: &Command, start: usize, next: usize) {
+    fn command(&mut self, command: &Command, start: usize, read: &ItemRead) {
         let (numbers, entries) = numbers_and_list(command);
         let Some(front) = self.list.lent().get_mut(..entries.len()) else {
             return self.not_read(7, start);
@@ -82,12 +94,9 @@ impl Read {
         front.copy_from_slice(&entries);
         let [first, second] = command.letters.map(usize::from);
         let kind = kind_number(command);
-        self.number = 0;
-        self.item = [COMMAND, next, 0, first, second, kind, entries.len()];
+        self.answer([COMMAND, read.next, 0, first, second, kind, entries.len()]);
         self.values = four(&numbers);
-        if let Some(point) = command.last_point() {
-            self.point = [point.x as u16, point.y as u16];
-        }
+        self.remembered = numbers_of(read.remembered);
     }
 }
 
@@ -115,11 +124,11 @@ impl fmt::Display for Read {
     fn fmt(&self, text: &mut fmt::Formatter) -> fmt::Result {
         write!(
             text,
-            "returns {}; item {}; values {}; point {}; list {}",
+            "returns {}; item {}; values {}; remembered {}; list {}",
             self.number,
             in_decimal(&self.item),
             in_decimal(&self.values),
-            in_decimal(&self.point),
+            in_decimal(&self.remembered),
             self.list
         )
     }

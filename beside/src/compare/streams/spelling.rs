@@ -1,13 +1,12 @@
-//! Spellings that are read and not always written: longer ones, and pairs. They are made here, so that a stream is valid whatever the two
-//! sides say.
+//! Spellings that are read and not always written: longer ones, pairs, and DELs that are filler. They are made here, so that a stream is valid
+//! whatever the two sides say.
 
 use second::commands::{Command, Value};
-use second::parameters::ESC;
+use second::parameters::{DEL, ESC};
 use second::points::Point;
+use second::remembered::{DelMode, Remembered};
 
 use crate::compare::draws::Draws;
-
-const DEL: u8 = 127;
 
 /// Two high bytes and the low byte, by the rule of document 01.
 fn three_bytes(integer: i32) -> [u8; 3] {
@@ -87,29 +86,50 @@ fn spell_value(draws: &mut Draws, value: &Value, last: Point) -> Vec<u8> {
     }
 }
 
-pub fn spell_somehow(draws: &mut Draws, command: &Command, remembered: Point) -> Vec<u8> {
+pub fn spell_somehow(draws: &mut Draws, command: &Command, remembered: Remembered) -> Vec<u8> {
     let mut spelling = vec![ESC];
     spelling.extend(command.letters);
-    let mut last = remembered;
+    let mut last = remembered.point;
     for value in &command.values {
         let parameter = spell_value(draws, value, last);
-        spelling.extend(with_pairs(draws, &parameter));
+        spelling.extend(with_pairs(draws, &parameter, remembered.mode));
         if let Value::Point(point) = value {
             last = *point;
         }
     }
-    spelling
+    with_fillers(draws, spelling, remembered.mode)
 }
 
-/// "ESC followed by 63 reads as 127."
-fn with_pairs(draws: &mut Draws, parameter: &[u8]) -> Vec<u8> {
+/// "ESC followed by 63 reads as 127", and where a plain 127 is filler nothing else does.
+fn with_pairs(draws: &mut Draws, parameter: &[u8], mode: DelMode) -> Vec<u8> {
     let mut paired = Vec::new();
     for &byte in parameter {
-        if byte == DEL && draws.one_in(2) {
+        if byte == DEL && (mode == DelMode::Filler || draws.one_in(2)) {
             paired.extend([ESC, 63]);
         } else {
             paired.push(byte);
         }
     }
     paired
+}
+
+/// Where 127 is filler, DELs between any two bytes of a command: behind the last they are its own no more.
+pub fn with_fillers(draws: &mut Draws, spelling: Vec<u8>, mode: DelMode) -> Vec<u8> {
+    if mode == DelMode::Data || draws.one_in(4) {
+        return spelling;
+    }
+    // From one gap in two to one in thirty-two.
+    let gaps = 2 << draws.below(5);
+    let mut padded = Vec::new();
+    for byte in spelling {
+        if !padded.is_empty() && draws.one_in(gaps) {
+            padded.extend(draw_fillers(draws));
+        }
+        padded.push(byte);
+    }
+    padded
+}
+
+pub fn draw_fillers(draws: &mut Draws) -> Vec<u8> {
+    vec![DEL; 1 + draws.below(3)]
 }

@@ -2,10 +2,13 @@
 
 use std::fmt;
 
-use second::items::{items_of, Item};
+use second::items::items_from;
+use second::remembered::{DelMode, Remembered};
 
+use super::dels::met;
 use super::read::Read;
 use crate::compare::case::{in_decimal, labelled, same, untouched, Case, Difference};
+use crate::compare::remembered::numbers_of;
 use crate::compare::shrinking::lesser;
 use crate::compare::tally::Row;
 
@@ -13,31 +16,41 @@ use crate::compare::tally::Row;
 const ROOM: usize = 256;
 
 #[derive(Clone)]
-pub struct Stream(pub Vec<u8>);
+pub struct Stream {
+    /// That of the first item.
+    pub mode: DelMode,
+    pub bytes: Vec<u8>,
+}
 
 impl Case for Stream {
     fn run(&self, row: &mut Row) -> Result<(), Difference> {
-        let bytes = self.0.clone();
-        let mut archive = Read::before([0, 0], ROOM);
+        let bytes = self.bytes.clone();
+        let mut before = Remembered::fresh_in(self.mode);
+        let mut archive = Read::before(numbers_of(before), ROOM);
         let mut second = archive.clone();
-        let items = items_of(&self.0);
-        for (index, item) in items.iter().enumerate() {
-            let next = items.get(index + 1).map_or(self.0.len(), Item::start);
-            take(&mut second, item, next);
-            archive.by_archive(&bytes, item.start());
-            self.compare(item.start(), &archive, &second)?;
+        let mut start = 0;
+        for read in items_from(&self.bytes, before) {
+            second.take(&read);
+            archive.by_archive(&bytes, start);
+            self.compare(start, &archive, &second)?;
             row.answer(second.number);
+            row.meet_all(&met(&bytes, start, before, &read));
+            (start, before) = (read.next, read.remembered);
         }
         // The list keeps what the items before have left there: beyond its own entries an item changes nothing.
         second.none_left();
-        archive.by_archive(&bytes, self.0.len());
-        self.compare(self.0.len(), &archive, &second)?;
+        archive.by_archive(&bytes, start);
+        self.compare(start, &archive, &second)?;
         row.answer(second.number);
-        untouched("the bytes", &bytes, &self.0)
+        untouched("the bytes", &bytes, &self.bytes)
     }
 
     fn smaller(&self) -> Vec<Stream> {
-        lesser(&self.0).into_iter().map(Stream).collect()
+        let with = |bytes| Stream {
+            mode: self.mode,
+            bytes,
+        };
+        lesser(&self.bytes).into_iter().map(with).collect()
     }
 }
 
@@ -48,17 +61,13 @@ impl Stream {
     }
 }
 
-fn take(read: &mut Read, item: &Item, next: usize) {
-    match item {
-        Item::Text { byte, .. } => read.text(*byte, next),
-        Item::Command { start, command } => read.command(command, *start, next),
-        Item::RefusedCommand { refused, .. } => read.refused(*refused, next),
-    }
-}
-
 impl fmt::Display for Stream {
     fn fmt(&self, text: &mut fmt::Formatter) -> fmt::Result {
-        let title = "A stream read item by item from the point 0 0.";
-        labelled(text, title, &[("bytes", in_decimal(&self.0))])
+        let remembered = numbers_of(Remembered::fresh_in(self.mode));
+        let lines = [
+            ("remembered", in_decimal(&remembered)),
+            ("bytes", in_decimal(&self.bytes)),
+        ];
+        labelled(text, "A stream read item by item.", &lines)
     }
 }
