@@ -68,7 +68,7 @@ module _ (kept : Remembered) (s : List ℕ) (start room : ℕ) (j : inside (kept
       (λ t. answer-ends (commandAt kept s start room) refl)
       (λ t. by-pick P (isFiller (kept .mode) (getD s start 0)) _ _ (λ u. (refl, omega arith)) (λ u. (refl, omega arith))))
 
-none-left : (kept : Remembered) (s : List ℕ) (start room : ℕ) → inside (kept .point) ≡ true → start ≡ length s → itemAt kept s start room ≡ nothing
+pub none-left : (kept : Remembered) (s : List ℕ) (start room : ℕ) → inside (kept .point) ≡ true → start ≡ length s → itemAt kept s start room ≡ nothing
 unfolding itemAt
 none-left kept s start room j h = rw (le-ltb (length s) start (omega (arith, h)), j, le-ltb start (length s) (omega (arith, h))) refl
 

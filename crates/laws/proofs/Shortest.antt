@@ -53,7 +53,7 @@ pub record EntryShown (e : Entry) (kept : Remembered) (s : List ℕ) (at : ℕ) 
 character : (n : ℕ) → 32 ≤ n → n ≤ 127 → isEntry ACharacter (pos n) ≡ true
 character n l h = rw (le-leb 32 n l, le-leb n 127 h)
 
-entry-good : (e : Entry) (kept : Remembered) (s : List ℕ) (at : ℕ) (r : Read ℤ) → entryAt e kept s at ≡ done r → EntryShown e kept s at r
+pub entry-good : (e : Entry) (kept : Remembered) (s : List ℕ) (at : ℕ) (r : Read ℤ) → entryAt e kept s at ≡ done r → EntryShown e kept s at r
 unfolding entryAt spellEntry
 entry-good AnInteger kept s at r g =
     let f = integer-shown kept s at g in
@@ -198,7 +198,7 @@ behind kept p ps s at f g a b left =
       within = b .within;
     }
 
-fixed-good : (kept : Remembered) (ps : List Part) (s : List ℕ) (at : ℕ) → at ≤ length s → Done (FixedShown kept ps s at) (fixedAt kept ps s at)
+pub fixed-good : (kept : Remembered) (ps : List Part) (s : List ℕ) (at : ℕ) → at ≤ length s → Done (FixedShown kept ps s at) (fixedAt kept ps s at)
 unfolding fixedAt every spellValues afterValues
 fixed-good kept [] s at h =
     is-done (FixedShown kept [] s at) (record { writable = refl; parts-are = refl; shortest = omega arith; kept-is = refl; forward = omega arith; within = h })
