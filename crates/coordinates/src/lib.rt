@@ -1,7 +1,10 @@
-// A point that comes as two numbers of any size, as other languages hand it in.
+// What other languages hand in as numbers: a point of two numbers of any size, and what is remembered.
 ghost use mathlib.Core.Path.{_≡_};
 ghost use Rattle.coordinates.specs.Coordinates.{coordinateOf, pointGiven};
+ghost use Rattle.coordinates.specs.Remembering.{keptIn, modeNumber, slotsOf};
+use memory::DelMode;
 use memory::Point;
+use memory::Remembered;
 
 // Stands for every coordinate outside 0..4095: no surface has it, and no point may be written with it.
 const OUTSIDE: u16 = 4096;
@@ -25,4 +28,54 @@ pub fn point_given(x: i32, y: i32) -> Point
     let across = coordinate(x);
     let up = coordinate(y);
     Point { x: across, y: up }
+}
+
+// ---- what is remembered
+
+// A mode that is neither 0 nor 1 stands for a point outside, so that each call refuses it with 8, "value out of range".
+pub fn kept_in(remembered: &[u16; 3]) -> Remembered
+    ensures { λ r. ⌜ r ≡ keptIn (now (remembered .entry)) ⌝ }
+{
+    let x = remembered[0];
+    let y = remembered[1];
+    let number = remembered[2];
+    let last = Point { x: x, y: y };
+    if number == 0 {
+        return Remembered {
+            point: last,
+            mode: DelMode::Data,
+        };
+    }
+    if number == 1 {
+        return Remembered {
+            point: last,
+            mode: DelMode::Filler,
+        };
+    }
+    let nowhere = Point {
+        x: OUTSIDE,
+        y: OUTSIDE,
+    };
+    Remembered {
+        point: nowhere,
+        mode: DelMode::Data,
+    }
+}
+
+fn mode_number(mode: DelMode) -> u16
+    ensures { λ r. ⌜ r ≡ modeNumber mode ⌝ }
+{
+    match mode {
+        DelMode::Data => 0,
+        DelMode::Filler => 1,
+    }
+}
+
+pub fn slots_of(kept: Remembered) -> [u16; 3]
+    ensures { λ r. ⌜ r ≡ slotsOf kept ⌝ }
+{
+    let point = kept.point;
+    let mode = kept.mode;
+    let number = mode_number(mode);
+    [point.x, point.y, number]
 }

@@ -3,12 +3,15 @@
 use Prim.Native.Nat.{ℕ}
 use mathlib.Core.Path.{_≡_, sym, _∙_, ap}
 use mathlib.Core.List.{List, [], _∷_}
+use lib.ListN.{length}
 use lib.IntN.{ℤ}
 use mir.Syntax.{w32}
 use mir.Val.{SFits, toZ, ofZ}
 use mir.Facts.{toZ-ofZ}
 use Rattle.refusals.specs.declared.Refusal.{Refusal}
 use Rattle.refusals.specs.Refusals.{numberOf}
+use Rattle.refusals.specs.Answers.{number, valueOr}
+use Rattle.memory.specs.declared.Remembered.{Remembered}
 use Rattle.defining.specs.declared.Defining.{Defining}
 use Rattle.defining.specs.declared.Defining.the-variants as Defining
 use Rattle.macros.specs.declared.Part.{Part}
@@ -16,11 +19,12 @@ use Rattle.macros.specs.declared.Place.{Place}
 use Rattle.macros.specs.declared.Place.the-variants as Place
 use Rattle.macros.specs.Store.{threeBytes, Placed, bodyPlaceOf, placed}
 use Rattle.defining.specs.Defining.{definingOf, defineRefusal, storeAfter}
-use Rattle.expansion.specs.declared.Counts.{Counts}
+use Rattle.expansion.specs.declared.Expanded.{Expanded}
 use Rattle.expansion.specs.declared.Expansion.{Expansion}
 use Rattle.expansion.specs.declared.Expansion.the-variants as Expansion
-use Rattle.expansion.specs.Expansion.{ExpansionAnswer, expansionOf, expandTold, expandOut}
-use Rattle.macro_calls.specs.Slots.{placeFields, countFields}
+use Rattle.expansion.specs.Expansion.{expansionOf, expandTold, expandOut}
+use Rattle.coordinates.specs.Remembering.{slotsOf, keptIn}
+use Rattle.macro_calls.specs.Slots.{placeFields, countFields, slotsBehind, ExpandedCall}
 
 -- ---- define
 
@@ -74,28 +78,27 @@ module _ (v s : List ℕ) (n : ℤ) (f : SFits w32 n) (p : Place) (e : bodyPlace
 
 -- ---- expand
 
-module _ (v s : List ℕ) (n : ℤ) (f : SFits w32 n) where
-  module _ (room : ℕ) (x : Expansion) (e : expansionOf x ≡ expandTold v s (toZ w32 (ofZ w32 n)) room) where
-    comes : expansionOf x ≡ expandTold v s n room
-    comes = e ∙ rw (toZ-ofZ f)
+module _ (v s : List ℕ) (n : ℤ) (f : SFits w32 n) (before out : List ℕ) {m : Remembered} (em : m ≡ keptIn before) (x : Expansion) (e : expansionOf x ≡ expandTold v s (toZ w32 (ofZ w32 n)) m (length out)) {left : List ℕ} (o : left ≡ expandOut v s (toZ w32 (ofZ w32 n)) m out) where
+  comes : expansionOf x ≡ expandTold v s n (keptIn before) (length out)
+  comes = e ∙ rw (toZ-ofZ f, em)
 
-    module _ {k : Counts} (g : x ≡ Expansion.Expanded k) where
-      pub expanded-number : 0 ≡ expandTold v s n room .number
-      unfolding expansionOf
-      expanded-number = rw (sym comes, g)
+  out-so : left ≡ expandOut v s n (keptIn before) out
+  out-so = o ∙ rw (toZ-ofZ f, em)
 
-      pub expanded-counts : k .written ∷ k .entered ∷ [] ≡ countFields (expandTold v s n room)
-      unfolding expansionOf countFields
-      expanded-counts = rw (sym comes, g)
+  pub expanded : {k : Expanded} {c r : List ℕ} → x ≡ Expansion.Done k → c ≡ k .written ∷ k .entered ∷ [] → r ≡ slotsOf (k .kept) → ExpandedCall v s n before out 0 c r left
+  unfolding expansionOf number countFields slotsBehind valueOr
+  expanded g ec er = record {
+    answered = rw (sym comes, g);
+    counted = ec ∙ rw (sym comes, g);
+    kept = er ∙ rw (sym comes, g);
+    stands = out-so;
+  }
 
-    module _ {r : Refusal} (g : x ≡ Expansion.Refused r) where
-      pub unexpanded-number : {y : ℕ} → y ≡ numberOf r → y ≡ expandTold v s n room .number
-      unfolding expansionOf
-      unexpanded-number j = rw (sym comes, g) j
-
-      pub unexpanded-counts : 0 ∷ 0 ∷ [] ≡ countFields (expandTold v s n room)
-      unfolding expansionOf countFields
-      unexpanded-counts = rw (sym comes, g)
-
-  pub out-so : (old : List ℕ) {o : List ℕ} → o ≡ expandOut v s (toZ w32 (ofZ w32 n)) old → o ≡ expandOut v s n old
-  out-so old e = e ∙ rw (toZ-ofZ f)
+  pub unexpanded : {r : Refusal} {y : ℕ} {c : List ℕ} → x ≡ Expansion.Refused r → y ≡ numberOf r → c ≡ 0 ∷ 0 ∷ [] → ExpandedCall v s n before out y c before left
+  unfolding expansionOf number countFields slotsBehind valueOr
+  unexpanded g ey ec = record {
+    answered = rw (sym comes, g) ey;
+    counted = ec ∙ rw (sym comes, g);
+    kept = rw (sym comes, g);
+    stands = out-so;
+  }

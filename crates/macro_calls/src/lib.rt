@@ -1,10 +1,8 @@
 // The macro calls for programs in other languages (include/ardhrumesh.h): the answer is a number, and what goes with it is written to lent slots.
 ghost use mathlib.Core.Path.{_≡_};
-ghost use lib.ListN.{length};
 ghost use Rattle.macros.specs.Store.{threeBytes, placed};
 ghost use Rattle.defining.specs.Defining.{defineRefusal, storeAfter};
-ghost use Rattle.expansion.specs.Expansion.{expandTold, expandOut};
-ghost use Rattle.macro_calls.specs.Slots.{placeFields, countFields};
+ghost use Rattle.macro_calls.specs.Slots.{placeFields, ExpandedCall};
 use defining::Defining;
 use expansion::Expansion;
 use macros::Place;
@@ -52,16 +50,18 @@ pub extern "C" fn ardh_expand<'a>(
     volatile: &'a [u8],
     saved: &'a [u8],
     number: i32,
+    remembered: &mut [u16; 3],
     out: &mut [u8],
     counts: &mut [usize; 2],
 ) -> u8
-    ensures { λ r. ⌜ r ≡ expandTold (now (volatile .entry)) (now (saved .entry)) number (length (now (out .entry))) .number ⌝ }
-    ensures { λ _. ⌜ now (counts .exit) ≡ countFields (expandTold (now (volatile .entry)) (now (saved .entry)) number (length (now (out .entry)))) ⌝ }
-    ensures { λ _. ⌜ now (out .exit) ≡ expandOut (now (volatile .entry)) (now (saved .entry)) number (now (out .entry)) ⌝ }
+    ensures { λ r. ⌜ ExpandedCall (now (volatile .entry)) (now (saved .entry)) number (now (remembered .entry)) (now (out .entry)) r (now (counts .exit)) (now (remembered .exit)) (now (out .exit)) ⌝ }
 {
-    match expansion::expand(volatile, saved, number, out) {
-        Expansion::Expanded(come) => {
+    let kept = coordinates::kept_in(remembered);
+    match expansion::expand(volatile, saved, number, kept, out) {
+        Expansion::Done(come) => {
+            let after = come.kept;
             *counts = [come.written, come.entered];
+            *remembered = coordinates::slots_of(after);
             0
         }
         Expansion::Refused(e) => {

@@ -1,11 +1,14 @@
--- The slots of an item, by the item's case.
+-- The slots of what is remembered, and of an item by the item's case.
 use Prim.Native.Nat.{ℕ}
 use mathlib.Core.Path.{_≡_, refl, sym, _∙_, ap}
 use mathlib.Core.List.{List, [], _∷_}
-use lib.ListN.{length}
+use borrow.Author.Tests.{ne-eqb}
+use lib.ListN.{length, getD}
 use lib.IntN.{ℤ}
 use Rattle.refusals.specs.declared.Refusal.{Refusal}
 use Rattle.refusals.specs.Refusals.{numberOf}
+use Rattle.memory.specs.declared.DelMode.{DelMode}
+use Rattle.memory.specs.declared.DelMode.the-variants.{Data, Filler}
 use Rattle.memory.specs.declared.Remembered.{Remembered}
 use Rattle.table.specs.declared.Kind.{Kind}
 use Rattle.table.specs.Table.{kindMeant}
@@ -17,11 +20,15 @@ use Rattle.commands.specs.declared.Command.{Command}
 use Rattle.commands.specs.declared.TakenCommand.{TakenCommand}
 use Rattle.writable.specs.Writable.{kindFor, kindNumber}
 use Rattle.stream.specs.declared.TextItem.{TextItem}
+use Rattle.stream.specs.declared.DelItem.{DelItem}
 use Rattle.stream.specs.declared.RefusedItem.{RefusedItem}
 use Rattle.stream.specs.declared.Item.{Item}
-use Rattle.stream.specs.declared.Item.the-variants.{Nothing, Text}
-use Rattle.stream.specs.Items.{itemOf, itemAt, toldItem, afterItem, nextKept}
-use Rattle.stream_calls.specs.Slots.{keptIn, twoOf, itemNumber, kindSlot, commandFields, itemFields, itemValues, NextItem}
+use Rattle.stream.specs.declared.Item.the-variants.{Nothing, Text, Del}
+use Rattle.stream.specs.Items.{itemOf, itemAt, toldItem, afterItem}
+use Rattle.coordinates.specs.Remembering.{slotsOf, keptIn}
+use Rattle.stream_calls.specs.Slots.{itemNumber, kindSlot, commandFields, itemFields, itemValues, rememberedAfter, NextItem}
+
+-- ---- a command's kind
 
 -- the kind that the parameters are made as is the kind that they are
 pub kind-slot : (ps : Parameters) → kindSlot (valuesOf ps) (tailOf ps) ≡ kindNumber (kindFor ps)
@@ -40,49 +47,53 @@ kind-slot (IntegerThenArray a) = refl
 
 -- ---- what is handed out of an item, by its case: the number, the slots, the values and what is then remembered
 
-pub record Hands (k : Remembered) (i : Item) (n : ℕ) (l : List ℕ) (v : List ℤ) (m : Remembered) : Type 0 where
+pub record Hands (before : List ℕ) (i : Item) (n : ℕ) (l : List ℕ) (v : List ℤ) (last : List ℕ) : Type 0 where
   pub number-is : n ≡ itemNumber (itemOf i)
   pub fields-are : l ≡ itemFields (itemOf i)
   pub values-are : v ≡ itemValues (itemOf i)
-  pub kept-is : m ≡ nextKept k (itemOf i)
+  pub kept-is : last ≡ rememberedAfter before (itemOf i)
 
-module _ (k : Remembered) {i : Item} where
-  pub nothing-hands : i ≡ Nothing → Hands k i 0 (0 ∷ 0 ∷ 0 ∷ 0 ∷ 0 ∷ 0 ∷ 0 ∷ []) noValues k
-  unfolding itemOf itemNumber itemFields itemValues nextKept
+module _ (before : List ℕ) {i : Item} where
+  pub nothing-hands : i ≡ Nothing → Hands before i 0 (0 ∷ 0 ∷ 0 ∷ 0 ∷ 0 ∷ 0 ∷ 0 ∷ []) noValues before
+  unfolding itemOf itemNumber itemFields itemValues rememberedAfter
   nothing-hands e = rw e (record { number-is = refl; fields-are = refl; values-are = refl; kept-is = refl })
 
-  pub text-hands : {t : TextItem} → i ≡ Text t → Hands k i 0 (1 ∷ t .next ∷ 0 ∷ t .byte ∷ 0 ∷ 0 ∷ 0 ∷ []) noValues k
-  unfolding itemOf itemNumber itemFields itemValues nextKept
+  pub text-hands : {t : TextItem} → i ≡ Text t → Hands before i 0 (1 ∷ t .next ∷ 0 ∷ t .byte ∷ 0 ∷ 0 ∷ 0 ∷ []) noValues before
+  unfolding itemOf itemNumber itemFields itemValues rememberedAfter
   text-hands e = rw e (record { number-is = refl; fields-are = refl; values-are = refl; kept-is = refl })
 
-  pub command-hands : {t : TakenCommand} {l : List ℕ} {v : List ℤ} → i ≡ Item.Command t → l ≡ commandFields (t .command .first) (t .command .second) (kindNumber (kindFor (t .command .parameters))) (t .count) (t .next) → v ≡ fourOf (valuesOf (t .command .parameters)) → Hands k i 0 l v (t .kept)
-  unfolding itemOf itemNumber itemFields itemValues nextKept
-  command-hands {t = t} e el ev =
+  pub del-hands : {d : DelItem} → i ≡ Del d → Hands before i 0 (5 ∷ d .next ∷ 0 ∷ 0 ∷ 0 ∷ 0 ∷ 0 ∷ []) noValues before
+  unfolding itemOf itemNumber itemFields itemValues rememberedAfter
+  del-hands e = rw e (record { number-is = refl; fields-are = refl; values-are = refl; kept-is = refl })
+
+  pub command-hands : {t : TakenCommand} {l last : List ℕ} {v : List ℤ} → i ≡ Item.Command t → l ≡ commandFields (t .command .first) (t .command .second) (kindNumber (kindFor (t .command .parameters))) (t .count) (t .next) → v ≡ fourOf (valuesOf (t .command .parameters)) → last ≡ slotsOf (t .kept) → Hands before i 0 l v last
+  unfolding itemOf itemNumber itemFields itemValues rememberedAfter
+  command-hands {t = t} e el ev ek =
       rw e (record {
         number-is = refl;
         fields-are = el ∙ ap (λ (x : ℕ). commandFields (t .command .first) (t .command .second) x (t .count) (t .next)) (sym (kind-slot (t .command .parameters)));
         values-are = ev;
-        kept-is = refl;
+        kept-is = ek;
       })
 
-  pub refused-command-hands : {r : RefusedItem} {n : ℕ} → i ≡ Item.RefusedCommand r → n ≡ numberOf (r .refusal) → Hands k i n (3 ∷ r .next ∷ r .place ∷ 0 ∷ 0 ∷ 0 ∷ 0 ∷ []) noValues (r .kept)
-  unfolding itemOf itemNumber itemFields itemValues nextKept
+  pub refused-command-hands : {r : RefusedItem} {n : ℕ} → i ≡ Item.RefusedCommand r → n ≡ numberOf (r .refusal) → Hands before i n (3 ∷ r .next ∷ r .place ∷ 0 ∷ 0 ∷ 0 ∷ 0 ∷ []) noValues before
+  unfolding itemOf itemNumber itemFields itemValues rememberedAfter
   refused-command-hands e j = rw e (record { number-is = j; fields-are = refl; values-are = refl; kept-is = refl })
 
-  pub refused-call-hands : {f : Refusal} {p n : ℕ} → i ≡ Item.Refused f p → n ≡ numberOf f → Hands k i n (4 ∷ 0 ∷ p ∷ 0 ∷ 0 ∷ 0 ∷ 0 ∷ []) noValues k
-  unfolding itemOf itemNumber itemFields itemValues nextKept
+  pub refused-call-hands : {f : Refusal} {p n : ℕ} → i ≡ Item.Refused f p → n ≡ numberOf f → Hands before i n (4 ∷ 0 ∷ p ∷ 0 ∷ 0 ∷ 0 ∷ 0 ∷ []) noValues before
+  unfolding itemOf itemNumber itemFields itemValues rememberedAfter
   refused-call-hands e j = rw e (record { number-is = j; fields-are = refl; values-are = refl; kept-is = refl })
 
--- ---- the exported call: read with the record that the two numbers stand for
+-- ---- the exported call: read with the record that the three numbers stand for
 
-pub next-item : (point bytes : List ℕ) (start : ℕ) (list : List ℤ) {k m : Remembered} {i : Item} {n : ℕ} {l last : List ℕ} {v es : List ℤ} → k ≡ keptIn point → itemOf i ≡ toldItem (itemAt k bytes start (length list)) → last ≡ twoOf m → es ≡ afterItem (itemAt k bytes start (length list)) list → Hands k i n l v m → NextItem point bytes start list n l v last es
-next-item point bytes start list {k = k} {i = i} ek e j el h =
-    let told : itemOf i ≡ toldItem (itemAt (keptIn point) bytes start (length list)) = e ∙ rw ek in
+pub next-item : (before bytes : List ℕ) (start : ℕ) (list : List ℤ) {k : Remembered} {i : Item} {n : ℕ} {l last : List ℕ} {v es : List ℤ} → k ≡ keptIn before → itemOf i ≡ toldItem (itemAt k bytes start (length list)) → es ≡ afterItem (itemAt k bytes start (length list)) list → Hands before i n l v last → NextItem before bytes start list n l v last es
+next-item before bytes start list {i = i} ek e el h =
+    let told : itemOf i ≡ toldItem (itemAt (keptIn before) bytes start (length list)) = e ∙ rw ek in
     record {
       answered = h .number-is ∙ ap itemNumber told;
       slots = h .fields-are ∙ ap itemFields told;
       numbers = h .values-are ∙ ap itemValues told;
-      remembered = j ∙ ap twoOf (h .kept-is ∙ ap (nextKept k) told ∙ rw ek);
+      remembered = h .kept-is ∙ ap (rememberedAfter before) told;
       filled = el ∙ rw ek;
     }
 

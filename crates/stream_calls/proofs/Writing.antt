@@ -30,11 +30,13 @@ use Rattle.table.specs.Table.{kindMeant, kindOf, foundOf}
 use Rattle.parameters.specs.declared.Parameters.{Parameters}
 use Rattle.parameters.specs.declared.Parameters.the-variants.{OneInteger, TwoIntegers, ThreeIntegers, OnePoint, TwoPoints, AReal, TwoCharacters, AString, AnArray, IntegerThenString, IntegerThenArray}
 use Rattle.parameters.specs.Shapes.{valuesOf}
+use Rattle.parameters.specs.Behind.{afterValues}
 use Rattle.commands.specs.declared.Command.{Command}
+use Rattle.commands.specs.Behind.{leading, afterLetters}
 use Rattle.writable.specs.Writable.{kindFor, kindNumber, isKind, isCommand}
-use Rattle.writing.specs.Writing.{afterValues, spellCommand, writeFitting, writeCommand}
-use Rattle.stream_calls.specs.Slots.{keptIn, twoOf}
-use Rattle.stream_calls.specs.Given.{ofKind, ofTabled, commandGiven, keptAfter, Writes, WrittenCommand}
+use Rattle.writing.specs.Writing.{spellCommand, writeFitting, writeCommand}
+use Rattle.coordinates.specs.Remembering.{slotsOf, keptIn}
+use Rattle.stream_calls.specs.Given.{ofKind, ofTabled, commandGiven, keptBehind, keptAfter, slotsAfter, Writes, WrittenCommand}
 use Rattle.stream_calls.specs.declared.Sent.{Sent}
 
 -- ---- the parameters of a kind
@@ -129,8 +131,10 @@ module _ (kept : Remembered) {k : Kind} (vs : List ℤ) where
     unfolding ofKind afterValues
     second-point-kept ea eb e = em ∙ rw (e, point-given a b fa fb ep, ea, eb)
 
-pub behind-given : (kept : Remembered) (k : Kind) (vs : List ℤ) {ps : Parameters} {m : Remembered} → ps ≡ ofKind (kindMeant k) vs → m ≡ afterValues kept (valuesOf (ofKind (kindMeant k) vs)) → m ≡ afterValues kept (valuesOf ps)
-behind-given kept k vs e j = rw e j
+-- and the letters of the command
+pub behind-given : (kept : Remembered) (first second : ℕ) (k : Kind) (vs : List ℤ) {ps : Parameters} {l m : Remembered} → ps ≡ ofKind (kindMeant k) vs → l ≡ afterValues kept (valuesOf (ofKind (kindMeant k) vs)) → m ≡ afterLetters l first second (leading (valuesOf ps))
+    → m ≡ keptBehind kept (record { first = first; second = second; parameters = ps })
+behind-given kept first second k vs e j h = h ∙ rw (j, e)
 
 -- ---- the command, by what the table has for its letters
 
@@ -185,7 +189,7 @@ module _ (kept : Remembered) (c : Command) (es : List ℤ) (out : List ℕ) (w :
   said-so : {v : Written} → w ≡ v → writtenOf v ≡ a
   said-so g = rw (sym g) e
 
-  moved : {n : ℕ} → w ≡ Next n → {k : Remembered} → k ≡ afterValues kept (valuesOf (c .parameters)) → k ≡ keptAfter kept c a
+  moved : {n : ℕ} → w ≡ Next n → {k : Remembered} → k ≡ keptBehind kept c → k ≡ keptAfter kept c a
   unfolding writtenOf valueOr keptAfter
   moved g j = rw (sym e, g) j
 
@@ -193,26 +197,34 @@ module _ (kept : Remembered) (c : Command) (es : List ℤ) (out : List ℕ) (w :
   unfolding writtenOf valueOr keptAfter
   same-kept g = rw (sym e, g)
 
-  pub writes-moved : {n : ℕ} → w ≡ Next n → {k : Remembered} → k ≡ afterValues kept (valuesOf (c .parameters)) → Writes kept c es out a (record { answer = Next n; kept = k }) left
+  pub writes-moved : {n : ℕ} → w ≡ Next n → {k : Remembered} → k ≡ keptBehind kept c → Writes kept c es out a (record { answer = Next n; kept = k }) left
   writes-moved g j = record { answered = said-so g; remembered = moved g j; stands = stands-so }
 
   pub writes-same : {f : Refusal} → w ≡ Written.Refused f → Writes kept c es out a (record { answer = Written.Refused f; kept = kept }) left
   writes-same g = record { answered = said-so g; remembered = same-kept g; stands = stands-so }
 
--- ---- from the lent point
+-- ---- from the three lent numbers
 
-module _ (point : List ℕ) {k : Remembered} (ek : k ≡ keptIn point) (c : Command) (es : List ℤ) (out : List ℕ) {s : Sent} {left : List ℕ} (h : Writes k c es out (writeCommand k c es (length out)) s left) {last : List ℕ} (el : last ≡ twoOf (s .kept)) where
-  said : writtenOf (s .answer) ≡ writeCommand (keptIn point) c es (length out)
+module _ (before : List ℕ) {k : Remembered} (ek : k ≡ keptIn before) (c : Command) (es : List ℤ) (out : List ℕ) {s : Sent} {left : List ℕ} (h : Writes k c es out (writeCommand k c es (length out)) s left) where
+  abbrev wrote : Answer ℕ
+  wrote = writeCommand (keptIn before) c es (length out)
+
+  said : writtenOf (s .answer) ≡ wrote
   said = h .answered ∙ rw ek
 
-  point-so : last ≡ twoOf (keptAfter (keptIn point) c (writeCommand (keptIn point) c es (length out)))
-  point-so = el ∙ rw (h .remembered, ek)
-
-  out-so : left ≡ afterWrite (writeCommand (keptIn point) c es (length out)) (spellCommand (keptIn point) c es) out 0
+  out-so : left ≡ afterWrite wrote (spellCommand (keptIn before) c es) out 0
   out-so = h .stands ∙ rw ek
 
-  pub command-written : {n : ℕ} → s .answer ≡ Next n → WrittenCommand point c es out 0 n last left
-  command-written g = record { answered = written-done said g; counted = written-next said g; remembered = point-so; stands = out-so }
+  slots-moved : {n : ℕ} → s .answer ≡ Next n → {last : List ℕ} → last ≡ slotsOf (s .kept) → last ≡ slotsAfter before c wrote
+  unfolding slotsAfter keptAfter writtenOf valueOr
+  slots-moved g el = el ∙ rw (h .remembered, ek, ← said, g)
 
-  pub command-refused : {f : Refusal} {n : ℕ} → s .answer ≡ Written.Refused f → n ≡ numberOf f → WrittenCommand point c es out n 0 last left
-  command-refused g j = record { answered = written-refused said g j; counted = written-none said g; remembered = point-so; stands = out-so }
+  slots-same : {f : Refusal} → s .answer ≡ Written.Refused f → before ≡ slotsAfter before c wrote
+  unfolding slotsAfter writtenOf valueOr
+  slots-same g = rw (← said, g)
+
+  pub command-written : {n : ℕ} → s .answer ≡ Next n → {last : List ℕ} → last ≡ slotsOf (s .kept) → WrittenCommand before c es out 0 n last left
+  command-written g el = record { answered = written-done said g; counted = written-next said g; remembered = slots-moved g el; stands = out-so }
+
+  pub command-refused : {f : Refusal} {n : ℕ} → s .answer ≡ Written.Refused f → n ≡ numberOf f → WrittenCommand before c es out n 0 before left
+  command-refused g j = record { answered = written-refused said g j; counted = written-none said g; remembered = slots-same g; stands = out-so }

@@ -13,10 +13,11 @@ use Rattle.parameters.specs.declared.Parameters.{Parameters}
 use Rattle.parameters.specs.declared.Parameters.the-variants.{OneInteger, TwoIntegers, ThreeIntegers, OnePoint, TwoPoints, AReal, TwoCharacters, AString, AnArray, IntegerThenString, IntegerThenArray}
 use Rattle.parameters.specs.Shapes.{valuesOf}
 use Rattle.commands.specs.declared.Command.{Command}
-use Rattle.writing.specs.Writing.{afterValues, spellCommand, writeCommand}
+use Rattle.commands.specs.Behind.{afterCommand}
+use Rattle.writing.specs.Writing.{spellCommand, writeCommand}
 use Rattle.wire.specs.Sending.{writtenOf, afterWrite}
 use Rattle.stream_calls.specs.declared.Sent.{Sent}
-use Rattle.stream_calls.specs.Slots.{keptIn, twoOf}
+use Rattle.coordinates.specs.Remembering.{slotsOf, keptIn}
 
 abbrev at : List ℤ → ℕ → ℤ
 at vs i = getD vs i (pos 0)
@@ -42,9 +43,16 @@ ofTabled notInTable vs = AString
 unfoldable pub commandGiven : (first second : ℕ) → List ℤ → Command
 commandGiven first second vs = record { first = first; second = second; parameters = ofTabled (kindOf first second) vs }
 
--- the remembered point behind the command; where it is not written, as it was
+-- ---- what is remembered behind the command; where it is not written, what was remembered before, and the three numbers are as they came
+
+abbrev pub keptBehind : Remembered → Command → Remembered
+keptBehind kept c = afterCommand kept (c .first) (c .second) (valuesOf (c .parameters))
+
 unfoldable pub keptAfter : Remembered → Command → Answer ℕ → Remembered
-keptAfter kept c a = valueOr kept (λ (n : ℕ). afterValues kept (valuesOf (c .parameters))) a
+keptAfter kept c a = valueOr kept (λ (n : ℕ). keptBehind kept c) a
+
+unfoldable pub slotsAfter : List ℕ → Command → Answer ℕ → List ℕ
+slotsAfter before c a = valueOr before (λ (n : ℕ). slotsOf (keptBehind (keptIn before) c)) a
 
 -- ---- what writing leaves: the answer a, what is remembered behind it, and the lent bytes
 
@@ -53,13 +61,13 @@ pub record Writes (kept : Remembered) (c : Command) (es : List ℤ) (out : List 
   pub remembered : r .kept ≡ keptAfter kept c a
   pub stands : left ≡ afterWrite a (spellCommand kept c es) out 0
 
--- and ardh_write_command: from the lent point
-module _ (point : List ℕ) (c : Command) (es : List ℤ) (out : List ℕ) where
+-- and ardh_write_command: from the three numbers of what was remembered before
+module _ (before : List ℕ) (c : Command) (es : List ℤ) (out : List ℕ) where
   abbrev wrote : Answer ℕ
-  wrote = writeCommand (keptIn point) c es (length out)
+  wrote = writeCommand (keptIn before) c es (length out)
 
   pub record WrittenCommand (answer written : ℕ) (last left : List ℕ) : Type 0 where
     pub answered : answer ≡ number wrote
     pub counted : written ≡ valueOr 0 (λ (n : ℕ). n) wrote
-    pub remembered : last ≡ twoOf (keptAfter (keptIn point) c wrote)
-    pub stands : left ≡ afterWrite wrote (spellCommand (keptIn point) c es) out 0
+    pub remembered : last ≡ slotsAfter before c wrote
+    pub stands : left ≡ afterWrite wrote (spellCommand (keptIn before) c es) out 0

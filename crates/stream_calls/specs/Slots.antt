@@ -1,29 +1,22 @@
--- An item as the header's slots hold it: item[7], values[4] and the remembered point as two numbers.
+-- An item as the header's slots hold it: item[7], values[4], and what is remembered as three numbers.
 use Prim.Native.Nat.{ℕ, _+_}
 use mathlib.Core.Path.{_≡_}
 use mathlib.Core.List.{List, [], _∷_}
-use lib.ListN.{length, getD}
+use lib.ListN.{length}
 use lib.IntN.{ℤ}
-use Rattle.memory.specs.declared.Remembered.{Remembered}
+use Rattle.coordinates.specs.Remembering.{slotsOf, keptIn}
 use Rattle.parameters.specs.declared.Entry.the-variants.{AnInteger, ACharacter}
 use Rattle.parameters.specs.Shapes.{Tailed, noList, listOf, Value, number, scaled, place}
 use Rattle.parameters.specs.Numbers.{noValues, fourOf}
 use Rattle.commands.specs.Reading.{Meaning, ToldCommand}
-use Rattle.stream.specs.Items.{Itemed, nothing, text, command, refusedCommand, refusedCall, itemAt, toldItem, afterItem, nextKept}
-
--- ---- the remembered point
-
-unfoldable pub keptIn : List ℕ → Remembered
-keptIn l = record { point = record { x = getD l 0 0; y = getD l 1 0 } }
-
-unfoldable pub twoOf : Remembered → List ℕ
-twoOf kept = kept .point .x ∷ kept .point .y ∷ []
+use Rattle.stream.specs.Items.{Itemed, nothing, text, del, command, refusedCommand, refusedCall, itemAt, toldItem, afterItem}
 
 -- ---- the number returned
 
 unfoldable pub itemNumber : Itemed ToldCommand → ℕ
 itemNumber nothing = 0
 itemNumber (text b n) = 0
+itemNumber (del n) = 0
 itemNumber (command t) = 0
 itemNumber (refusedCommand e p n kept) = e
 itemNumber (refusedCall e p) = e
@@ -55,6 +48,7 @@ commandFields first second kind count next = 2 ∷ next ∷ 0 ∷ first ∷ seco
 unfoldable pub itemFields : Itemed ToldCommand → List ℕ
 itemFields nothing = 0 ∷ 0 ∷ 0 ∷ 0 ∷ 0 ∷ 0 ∷ 0 ∷ []
 itemFields (text b n) = 1 ∷ n ∷ 0 ∷ b ∷ 0 ∷ 0 ∷ 0 ∷ []
+itemFields (del n) = 5 ∷ n ∷ 0 ∷ 0 ∷ 0 ∷ 0 ∷ 0 ∷ []
 itemFields (command t) = commandFields (t .first) (t .second) (kindSlot (t .values) (t .tail)) (t .count) (t .next)
 itemFields (refusedCommand e p n kept) = 3 ∷ n ∷ p ∷ 0 ∷ 0 ∷ 0 ∷ 0 ∷ []
 itemFields (refusedCall e p) = 4 ∷ 0 ∷ p ∷ 0 ∷ 0 ∷ 0 ∷ 0 ∷ []
@@ -64,19 +58,31 @@ itemFields (refusedCall e p) = 4 ∷ 0 ∷ p ∷ 0 ∷ 0 ∷ 0 ∷ 0 ∷ []
 unfoldable pub itemValues : Itemed ToldCommand → List ℤ
 itemValues nothing = noValues
 itemValues (text b n) = noValues
+itemValues (del n) = noValues
 itemValues (command t) = fourOf (t .values)
 itemValues (refusedCommand e p n kept) = noValues
 itemValues (refusedCall e p) = noValues
 
--- ---- what ardh_next_item leaves of the lent point, bytes and list
+-- ---- what is remembered behind it: only a command that was read changes it. "The remembered point after a refused command is that before it." "A
+-- refused KI changes nothing."
 
-module _ (point bytes : List ℕ) (start : ℕ) (list : List ℤ) where
+unfoldable pub rememberedAfter : List ℕ → Itemed ToldCommand → List ℕ
+rememberedAfter before nothing = before
+rememberedAfter before (text b n) = before
+rememberedAfter before (del n) = before
+rememberedAfter before (command t) = slotsOf (t .kept)
+rememberedAfter before (refusedCommand e p n kept) = before
+rememberedAfter before (refusedCall e p) = before
+
+-- ---- what ardh_next_item leaves, from the three numbers of what was remembered before, the bytes and the list
+
+module _ (before bytes : List ℕ) (start : ℕ) (list : List ℤ) where
   abbrev read : Itemed Meaning
-  read = itemAt (keptIn point) bytes start (length list)
+  read = itemAt (keptIn before) bytes start (length list)
 
   pub record NextItem (answer : ℕ) (item : List ℕ) (values : List ℤ) (last : List ℕ) (entries : List ℤ) : Type 0 where
     pub answered : answer ≡ itemNumber (toldItem read)
     pub slots : item ≡ itemFields (toldItem read)
     pub numbers : values ≡ itemValues (toldItem read)
-    pub remembered : last ≡ twoOf (nextKept (keptIn point) (toldItem read))
+    pub remembered : last ≡ rememberedAfter before (toldItem read)
     pub filled : entries ≡ afterItem read list

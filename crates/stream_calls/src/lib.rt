@@ -1,17 +1,17 @@
 // The stream's calls for programs in other languages (include/ardhrumesh.h): the next item, and writing a command. The answer is a number,
-// what goes with it is written to lent slots, and the remembered point is a lent array.
+// what goes with it is written to lent slots, and what is remembered is one lent array: the point's x and y, and the DEL mode, 0 or 1.
 ghost use mathlib.Core.Path.{_≡_};
 ghost use lib.ListN.{length};
 ghost use Rattle.parameters.specs.Shapes.{valuesOf};
 ghost use Rattle.parameters.specs.Numbers.{fourOf};
+ghost use Rattle.parameters.specs.Behind.{afterValues};
 ghost use Rattle.writable.specs.Writable.{kindFor, kindNumber};
-ghost use Rattle.writing.specs.Writing.{afterValues, writeFitting, writeCommand};
+ghost use Rattle.writing.specs.Writing.{writeFitting, writeCommand};
 ghost use Rattle.table.specs.Table.{kindMeant};
-ghost use Rattle.stream_calls.specs.Slots.{keptIn, twoOf, commandFields, NextItem};
-ghost use Rattle.stream_calls.specs.Given.{ofKind, commandGiven, Writes, WrittenCommand};
+ghost use Rattle.stream_calls.specs.Slots.{commandFields, NextItem};
+ghost use Rattle.stream_calls.specs.Given.{ofKind, commandGiven, keptBehind, Writes, WrittenCommand};
 use commands::Command;
 use commands::TakenCommand;
-use memory::Point;
 use memory::Remembered;
 use parameters::Parameters;
 use parameters::Real;
@@ -23,24 +23,6 @@ use wire::Written;
 
 // "0 means done"
 const DONE: u8 = 0;
-
-// ---- the remembered point
-
-fn kept_in(point: &[u16; 2]) -> Remembered
-    ensures { λ r. ⌜ r ≡ keptIn (now (point .entry)) ⌝ }
-{
-    let x = point[0];
-    let y = point[1];
-    let last = Point { x: x, y: y };
-    Remembered { point: last }
-}
-
-fn two_of(kept: Remembered) -> [u16; 2]
-    ensures { λ r. ⌜ r ≡ twoOf kept ⌝ }
-{
-    let point = kept.point;
-    [point.x, point.y]
-}
 
 // ---- the next item
 
@@ -71,29 +53,33 @@ fn four_of(parameters: Parameters) -> [i32; 4]
     numbers.values
 }
 
+// Only a command that was read changes what is remembered.
 #[no_mangle]
 pub extern "C" fn ardh_next_item(
     bytes: &[u8],
     start: usize,
-    point: &mut [u16; 2],
+    remembered: &mut [u16; 3],
     list: &mut [i32],
     item: &mut [usize; 7],
     values: &mut [i32; 4],
 ) -> u8
-    ensures { λ r. ⌜ NextItem (now (point .entry)) (now (bytes .entry)) start (now (list .entry)) r (now (item .exit)) (now (values .exit)) (now (point .exit)) (now (list .exit)) ⌝ }
+    ensures { λ r. ⌜ NextItem (now (remembered .entry)) (now (bytes .entry)) start (now (list .entry)) r (now (item .exit)) (now (values .exit)) (now (remembered .exit)) (now (list .exit)) ⌝ }
 {
-    let kept = kept_in(point);
+    let kept = coordinates::kept_in(remembered);
     match stream::read_item(kept, bytes, start, list) {
         Item::Nothing => {
             *item = [0, 0, 0, 0, 0, 0, 0];
             *values = [0, 0, 0, 0];
-            *point = two_of(kept);
             DONE
         }
         Item::Text(text) => {
             *item = [1, text.next, 0, text.byte as usize, 0, 0, 0];
             *values = [0, 0, 0, 0];
-            *point = two_of(kept);
+            DONE
+        }
+        Item::Del(del) => {
+            *item = [5, del.next, 0, 0, 0, 0, 0];
+            *values = [0, 0, 0, 0];
             DONE
         }
         Item::Command(taken) => {
@@ -102,21 +88,18 @@ pub extern "C" fn ardh_next_item(
             let after = taken.kept;
             *item = command_fields(taken);
             *values = four_of(parameters);
-            *point = two_of(after);
+            *remembered = coordinates::slots_of(after);
             DONE
         }
         Item::RefusedCommand(refused) => {
             let refusal = refused.refusal;
-            let before = refused.kept;
             *item = [3, refused.next, refused.place, 0, 0, 0, 0];
             *values = [0, 0, 0, 0];
-            *point = two_of(before);
             refusals::number(refusal)
         }
         Item::Refused(refusal, place) => {
             *item = [4, 0, place, 0, 0, 0, 0];
             *values = [0, 0, 0, 0];
-            *point = two_of(kept);
             refusals::number(refusal)
         }
     }
@@ -155,7 +138,7 @@ fn of_kind(kind: Kind, v: &[i32; 4]) -> Parameters
     }
 }
 
-// What is remembered behind a command of a kind. It is made of the numbers: fetched from the parameters, where a point lies across the places
+// What is remembered behind the values of a kind. It is made of the numbers: fetched from the parameters, where a point lies across the places
 // of integers, it would wait for them.
 fn kept_behind(kept: Remembered, kind: Kind, v: &[i32; 4]) -> Remembered
     ensures { λ r. ⌜ r ≡ afterValues kept (valuesOf (ofKind (kindMeant kind) (now (v .entry)))) ⌝ }
@@ -193,7 +176,7 @@ fn write_known(
     list: &[i32],
     out: &mut [u8],
 ) -> Sent
-    requires { ⌜ behind ≡ afterValues kept (valuesOf (command .parameters)) ⌝ }
+    requires { ⌜ behind ≡ keptBehind kept command ⌝ }
     ensures { λ r. ⌜ Writes kept command (now (list .entry)) (now (out .entry)) (writeFitting kept command (now (list .entry)) (length (now (out .entry)))) r (now (out .exit)) ⌝ }
 {
     match writing::write_fitting(kept, command, list, out) {
@@ -227,7 +210,8 @@ fn write_given(
                 second: second,
                 parameters: parameters,
             };
-            let behind = kept_behind(kept, kind, v);
+            let left = kept_behind(kept, kind, v);
+            let behind = commands::after_parameters(left, first, second, parameters);
             write_known(kept, command, behind, list, out)
         }
         Found::NoKind => Sent {
@@ -237,25 +221,26 @@ fn write_given(
     }
 }
 
+// Only a command that was written changes what is remembered.
 #[no_mangle]
 pub extern "C" fn ardh_write_command(
     first: u8,
     second: u8,
     values: &[i32; 4],
     list: &[i32],
-    point: &mut [u16; 2],
+    remembered: &mut [u16; 3],
     out: &mut [u8],
     written: &mut usize,
 ) -> u8
-    ensures { λ r. ⌜ WrittenCommand (now (point .entry)) (commandGiven first second (now (values .entry))) (now (list .entry)) (now (out .entry)) r (now (written .exit)) (now (point .exit)) (now (out .exit)) ⌝ }
+    ensures { λ r. ⌜ WrittenCommand (now (remembered .entry)) (commandGiven first second (now (values .entry))) (now (list .entry)) (now (out .entry)) r (now (written .exit)) (now (remembered .exit)) (now (out .exit)) ⌝ }
 {
-    let kept = kept_in(point);
+    let kept = coordinates::kept_in(remembered);
     let sent = write_given(kept, first, second, values, list, out);
     let behind = sent.kept;
     let answer = sent.answer;
-    *point = two_of(behind);
     match answer {
         Written::Next(n) => {
+            *remembered = coordinates::slots_of(behind);
             *written = n;
             DONE
         }

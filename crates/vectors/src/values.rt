@@ -1,6 +1,7 @@
 // The single values, a line each.
 use crate::front;
 use crate::print;
+use memory::DelMode;
 use memory::Point;
 use memory::Remembered;
 use numbers::IntegerRead;
@@ -46,7 +47,10 @@ fn coordinates(point: Point) {
 
 fn point(x: u16, y: u16, remembered: Point) {
     let to = Point { x: x, y: y };
-    let kept = Remembered { point: remembered };
+    let kept = Remembered {
+        point: remembered,
+        mode: DelMode::Data,
+    };
     print::text(b"point ");
     coordinates(to);
     print::text(b" from ");

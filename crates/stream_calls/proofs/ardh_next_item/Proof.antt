@@ -1,4 +1,4 @@
-use Rattle.stream_calls.proofs.Items.{next-item, nothing-hands, text-hands, command-hands, refused-command-hands, refused-call-hands}
+use Rattle.stream_calls.proofs.Items.{next-item, nothing-hands, text-hands, del-hands, command-hands, refused-command-hands, refused-call-hands}
 use borrow.Author.Needs.{needs}
 use Rattle.stream_calls.proofs.ardh_next_item.Statement.{statement}
 use Rattle.stream_calls.proofs.ardh_next_item.Tie as tie
@@ -10,24 +10,23 @@ ardh-next-item-spec =
     (λ c κs. search needs)
     (λ c κs. search needs)
     (λ c. search needs)
-    (λ c κs. search needs)
+    (λ c. search needs)
+    (λ c. search needs)
     (λ c. search needs)
     (λ c. search needs)
     (λ c κs. search needs)
-    (λ c. search needs)
-    (λ c κs. search needs)
-    (λ c κs. search needs)
-    (λ c κs. search needs)
-    (λ c. search needs)
     (λ c κs. search needs)
     (λ c κs. search needs)
     (λ c. search needs)
     (λ c κs. search needs)
+    (λ c. search needs)
     (λ c κs. search needs)
     (λ c. search needs)
     (λ c. search (needs, next-item, nothing-hands))
     (λ c. search needs)
     (λ c. search (needs, next-item, text-hands))
+    (λ c. search needs)
+    (λ c. search (needs, next-item, del-hands))
     (λ c. search needs)
     (λ c. search (needs, next-item, command-hands))
     (λ c. search needs)

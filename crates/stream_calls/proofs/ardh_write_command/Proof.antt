@@ -9,11 +9,11 @@ kept-in-requires c κs = search needs
 write-given-requires : tie.Need-write-given-requires
 write-given-requires c κs = search needs
 
-two-of-requires : tie.Need-two-of-requires
-two-of-requires c κs = search needs
-
 enum-known-answer : tie.Need-enum-known-answer
 enum-known-answer c = search needs
+
+slots-of-requires : tie.Need-slots-of-requires
+slots-of-requires c κs = search needs
 
 enum-known-answer-2 : tie.Need-enum-known-answer-2
 enum-known-answer-2 c = search needs
@@ -39,8 +39,8 @@ ardh-write-command-spec =
     (tie.spec
     kept-in-requires
     write-given-requires
-    two-of-requires
     enum-known-answer
+    slots-of-requires
     enum-known-answer-2
     number-requires
     same-length

@@ -15,6 +15,9 @@ of-kind-requires c κs = search needs
 kept-behind-requires : tie.Need-kept-behind-requires
 kept-behind-requires c κs = search needs
 
+after-parameters-requires : tie.Need-after-parameters-requires
+after-parameters-requires c κs = search needs
+
 write-known-requires : tie.Need-write-known-requires
 write-known-requires c κs = search (needs, behind-given)
 
@@ -38,6 +41,7 @@ write-given-spec =
     enum-known-kind
     of-kind-requires
     kept-behind-requires
+    after-parameters-requires
     write-known-requires
     enum-told
     same-length
