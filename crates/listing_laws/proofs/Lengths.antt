@@ -10,30 +10,33 @@ use lib.Dec.{ltb, leb, eqb}
 use lib.ListN.{length, getD, take, length-append, length-take}
 use lib.Seq.{take-all}
 use lib.IntN.{ℤ, pos, negsuc, natAbs}
+use Rattle.memory.specs.declared.DelMode.{DelMode}
+use Rattle.memory.specs.declared.DelMode.the-variants.{Data, Filler}
 use Rattle.memory.specs.declared.Remembered.{Remembered}
 use Rattle.memory.specs.Memory.{inside, freshMemory}
 use Rattle.refusals.specs.Answers.{Answer, done, refused}
 use Rattle.refusals.proofs.Cases.{by-pick, and-left, and-right, bool-apart}
 use Rattle.refusals.proofs.Many.{every-split}
 use Rattle.signs.specs.Signs.{isNegative, mostMagnitude}
-use Rattle.wire.specs.Sending.{sent, roomFor, writeAt}
-use Rattle.numbers.specs.Integers.{highsOf, lowOf, spellOf}
+use Rattle.wire.specs.Sending.{paired, sentIn, sent, roomFor, writeAt}
+use Rattle.numbers.specs.Integers.{highsOf, lowOf, spellOf, spell}
 use Rattle.table.specs.Table.{ParameterKind}
 use Rattle.table.specs.Table as K
 use Rattle.parameters.specs.declared.Entry.{Entry}
 use Rattle.parameters.specs.declared.Entry.the-variants.{AnInteger, ACharacter}
 use Rattle.parameters.specs.Shapes.{Tailed, noList, listOf, Part, single, real, point, Shape, shapeOf, Value, number, scaled, place}
 use Rattle.parameters.specs.Numbers.{numbersOf}
+use Rattle.parameters.specs.Behind.{afterValues}
 use Rattle.commands.specs.Reading.{Meaning, tell, commandAt}
 use Rattle.writable.specs.Writable.{isEntry, areEntries, isValue, areValues, isTail}
-use Rattle.writing.specs.Writing.{spellEntry, spellEntries, spellValues, afterValues, spellTail, spellParameters}
-use Rattle.stream.specs.Items.{Itemed, nothing, text, command, refusedCommand, refusedCall, asItem, commandItem, itemAt, toldItem, nextStart, nextKept}
+use Rattle.writing.specs.Writing.{spellEntry, spellEntries, spellValues, spellTail, spellParameters}
+use Rattle.stream.specs.Items.{Itemed, nothing, text, del, command, refusedCommand, refusedCall, asItem, commandItem, isFiller, itemAt, toldItem, nextStart, nextKept}
 use Rattle.laws.specs.Laws.{Onward, Parted, ByNothing}
 use Rattle.laws.proofs.RoundTrip.{partOf}
 use Rattle.laws.proofs.Shortest.{Shown, command-shown}
 use Rattle.laws.proofs.Partition.{every-stream-read}
 use Rattle.lines.specs.Decimals.{digitsOf, decimal, field, fields}
-use Rattle.lines.specs.Lines.{listed, opening, textLine, letters, commandHead, parametersWords, commandLine, pair, refusedLine, lineOf, lastLine}
+use Rattle.lines.specs.Lines.{listed, opening, textLine, delLine, letters, commandHead, parametersWords, commandLine, pair, refusedLine, lineOf, lastLine}
 use Rattle.listing.specs.Listing.{entriesOf, lineThen, linesFrom, linesOf, listingWith, listingOf}
 use Rattle.listing_laws.specs.Listings.{mostListed}
 use Rattle.listing_laws.proofs.Whole.{NoItem, no-lines}
@@ -142,12 +145,26 @@ values-few (place p ∷ vs) h =
 
 -- ---- a list has a byte for each entry
 
+-- no byte is sent as none, in either mode
+pair-some : (b : ℕ) → 1 ≤ length (paired b)
+pair-some b = by-pick (λ (w : List ℕ). 1 ≤ length w) (eqb b 127) _ _ (λ t. omega arith) (λ t. omega arith)
+
+sent-least-in : (m : DelMode) (w : List ℕ) → length w ≤ length (sentIn m w)
+unfolding sentIn
+sent-least-in Data w = omega arith
+sent-least-in Filler [] = omega arith
+sent-least-in Filler (b ∷ w) = omega (arith, pair-some b, sent-least-in Filler w, length-append (paired b) (sentIn Filler w))
+
+sent-least : (kept : Remembered) (w : List ℕ) → length w ≤ length (sent kept w)
+unfolding sent
+sent-least kept w = sent-least-in (kept .mode) w
+
 entry-some : (e : Entry) (kept : Remembered) (v : ℤ) → 1 ≤ length (spellEntry e kept v)
-unfolding spellEntry sent spellOf
+unfolding spellEntry spellOf
 entry-some AnInteger kept v =
     let m = natAbs v in
-    omega (arith, length-append (highsOf (m / 16)) (lowOf m (isNegative v) ∷ []))
-entry-some ACharacter kept v = omega arith
+    omega (arith, sent-least kept (spell v), length-append (highsOf (m / 16)) (lowOf m (isNegative v) ∷ []))
+entry-some ACharacter kept v = omega (arith, sent-least kept (natAbs v ∷ []))
 
 entries-some : (e : Entry) (kept : Remembered) (es : List ℤ) → length es ≤ length (spellEntries e kept es)
 unfolding spellEntries
@@ -176,6 +193,10 @@ text-few : (start b : ℕ) → start < 10000 → b < 1000 → length (textLine s
 unfolding textLine
 text-few start b h g =
     omega (arith, opening-few 84 start h, natural-few 1000 3 b three g, length-append (opening 84 start ++ field (pos b)) (10 ∷ []), length-append (opening 84 start) (field (pos b)))
+
+del-few : (start : ℕ) → start < 10000 → length (delLine start) ≤ 7
+unfolding delLine
+del-few start h = omega (arith, opening-few 68 start h, length-append (opening 68 start) (10 ∷ []))
 
 refused-few : (start e p : ℕ) → start < 10000 → e < 10 → p < 10000 → length (refusedLine start e p) ≤ 14
 unfolding refusedLine pair
@@ -213,6 +234,7 @@ module _ (kept : Remembered) (s : List ℕ) (start : ℕ) (m : Meaning) (f : Sho
 unfoldable Told : Remembered → List ℕ → ℕ → Itemed Meaning → Type 0
 Told kept s start nothing = Unit {0}
 Told kept s start (text b n) = b < 256
+Told kept s start (del n) = Unit {0}
 Told kept s start (command m) = Shown kept s start m
 Told kept s start (refusedCommand e p n k) = Unit {0}
 Told kept s start (refusedCall e p) = Unit {0}
@@ -233,7 +255,9 @@ module _ (kept : Remembered) (s : List ℕ) (start : ℕ) (bytes : (i : ℕ) →
       (λ t. tt)
       (λ t. by-pick P (inside (kept .point)) _ _
       (λ u. by-pick P (ltb start (length s)) _ _
-      (λ v. by-pick P (eqb (getD s start 0) 27) _ _ (λ w. answer-told (commandAt kept s start 256) refl) (λ w. bytes start))
+      (λ v. by-pick P (eqb (getD s start 0) 27) _ _
+      (λ w. answer-told (commandAt kept s start 256) refl)
+      (λ w. by-pick P (isFiller (kept .mode) (getD s start 0)) _ _ (λ x. tt) (λ x. bytes start)))
       (λ v. tt))
       (λ u. tt))
 
@@ -250,6 +274,8 @@ module _ (s : List ℕ) (bytes : (i : ℕ) → getD s i 0 < 256) (most : length 
       let none : NoItem (itemAt kept s start 256) = rw e tt in omega (arith, h, ap length (no-lines k s kept start none))
   then-few k kept start rest (text b n) e t h =
       omega (arith, h .0 .0, h .0 .1, text-few start b (omega (arith, h .0, most)) (omega (arith, t)), rest kept n (h .1), length-append (textLine start b) (linesFrom k s kept n))
+  then-few k kept start rest (del n) e t h =
+      omega (arith, h .0 .0, h .0 .1, del-few start (omega (arith, h .0, most)), rest kept n (h .1), length-append (delLine start) (linesFrom k s kept n))
   then-few k kept start rest (command m) e t h =
       omega (arith, command-few kept s start m t (omega (arith, h .0, most)), rest (m .kept) (m .next) (h .1), length-append (commandLine (tell m) start (m .entries)) (linesFrom k s (m .kept) (m .next)))
   then-few k kept start rest (refusedCommand x p n before) e t h =

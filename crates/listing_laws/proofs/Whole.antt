@@ -13,7 +13,7 @@ use Rattle.memory.specs.declared.Remembered.{Remembered}
 use Rattle.memory.specs.Memory.{freshMemory, inside}
 use Rattle.refusals.proofs.Cases.{by-pick}
 use Rattle.commands.specs.Reading.{Meaning}
-use Rattle.stream.specs.Items.{Itemed, nothing, text, command, refusedCommand, refusedCall, itemAt, toldItem, nextStart, nextKept}
+use Rattle.stream.specs.Items.{Itemed, nothing, text, del, command, refusedCommand, refusedCall, itemAt, toldItem, nextStart, nextKept}
 use Rattle.laws.specs.Laws.{Onward, Parted, ByNothing}
 use Rattle.laws.proofs.Partition.{every-stream-read}
 use Rattle.lines.specs.Lines.{lineOf}
@@ -25,6 +25,7 @@ use Rattle.listing_laws.specs.Listings.{startBehind}
 unfoldable pub NoItem : Itemed Meaning → Type 0
 NoItem nothing = Unit {0}
 NoItem (text b n) = ⊥
+NoItem (del n) = ⊥
 NoItem (command m) = ⊥
 NoItem (refusedCommand e p n kept) = ⊥
 NoItem (refusedCall e p) = Unit {0}
@@ -39,6 +40,7 @@ none-then : (rest : Remembered → ℕ → List ℕ) (kept : Remembered) (start 
 unfolding lineThen lineOf toldItem nextKept nextStart NoItem
 none-then rest kept start nothing h = refl
 none-then rest kept start (text b n) h = absurd h
+none-then rest kept start (del n) h = absurd h
 none-then rest kept start (command m) h = absurd h
 none-then rest kept start (refusedCommand e p n k) h = absurd h
 none-then rest kept start (refusedCall e p) h = refl
@@ -56,6 +58,7 @@ Same j k s = (kept : Remembered) (start : ℕ) → Parted ByNothing s 256 k kept
 same-then : (j k : ℕ) (s : List ℕ) (kept : Remembered) (start : ℕ) → Same j k s → (i : Itemed Meaning) → itemAt kept s start 256 ≡ i → Onward ByNothing (Parted ByNothing s 256 k) s kept start i → lineThen (linesFrom j s) kept start i ≡ lineThen (linesFrom k s) kept start i
 unfolding Onward lineThen toldItem nextKept nextStart NoItem
 same-then j k s kept start same (text b n) e h = rw (same kept n (h .1))
+same-then j k s kept start same (del n) e h = rw (same kept n (h .1))
 same-then j k s kept start same (command m) e h = rw (same (m .kept) (m .next) (h .1))
 same-then j k s kept start same (refusedCommand x p n before) e h = rw (same before n (h .1 .1))
 same-then j k s kept start same nothing e h =
@@ -86,6 +89,7 @@ reached-then : (k : ℕ) (s : List ℕ) (kept : Remembered) (start : ℕ) → ((
     → startBehind k s (nextKept kept (toldItem i)) (nextStart start (toldItem i)) ≡ length s
 unfolding Onward toldItem nextKept nextStart
 reached-then k s kept start next (text b n) e h = next kept n (h .1)
+reached-then k s kept start next (del n) e h = next kept n (h .1)
 reached-then k s kept start next (command m) e h = next (m .kept) (m .next) (h .1)
 reached-then k s kept start next (refusedCommand x p n before) e h = next before n (h .1 .1)
 reached-then k s kept start next nothing e h = still-there k s kept start e ∙ h

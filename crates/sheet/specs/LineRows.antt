@@ -1,4 +1,4 @@
--- The listing of document 01's example, from its 13 bytes, and a line of each other sort.
+-- The listing of document 01's example, from its 13 bytes, listings with DELs, and a line of each other sort.
 use Prim.Native.Nat.{ℕ}
 use mathlib.Core.Bool.{true}
 use mathlib.Core.List.{List, [], _∷_}
@@ -31,6 +31,23 @@ line-examples =
     -- C 0 LF 0 100, R 5 3 11, C 12 LF 4 100, E 16: the refused RS has a first corner of (128,0), and the y of the last point is that before it
     ∷ lists (27 ∷ 76 ∷ 70 ∷ 121 ∷ 64 ∷ 27 ∷ 82 ∷ 83 ∷ 96 ∷ 33 ∷ 64 ∷ 10 ∷ 27 ∷ 76 ∷ 70 ∷ 65 ∷ [])
     (67 ∷ 32 ∷ 48 ∷ 32 ∷ 76 ∷ 70 ∷ 32 ∷ 48 ∷ 32 ∷ 49 ∷ 48 ∷ 48 ∷ 10 ∷ 82 ∷ 32 ∷ 53 ∷ 32 ∷ 51 ∷ 32 ∷ 49 ∷ 49 ∷ 10 ∷ 67 ∷ 32 ∷ 49 ∷ 50 ∷ 32 ∷ 76 ∷ 70 ∷ 32 ∷ 52 ∷ 32 ∷ 49 ∷ 48 ∷ 48 ∷ 10 ∷ 69 ∷ 32 ∷ 49 ∷ 54 ∷ 10 ∷ [])
+    -- "each plain 127, in text, between letters or in a parameter, is passed over and belongs to the item in progress, or makes an item of its own between
+    -- commands": C 0 KI 1, C 4 KA 0, D 11, D 12, E 13
+    ∷ lists (27 ∷ 75 ∷ 73 ∷ 49 ∷ 27 ∷ 127 ∷ 75 ∷ 127 ∷ 65 ∷ 127 ∷ 48 ∷ 127 ∷ 127 ∷ [])
+    (67 ∷ 32 ∷ 48 ∷ 32 ∷ 75 ∷ 73 ∷ 32 ∷ 49 ∷ 10 ∷ 67 ∷ 32 ∷ 52 ∷ 32 ∷ 75 ∷ 65 ∷ 32 ∷ 48 ∷ 10 ∷ 68 ∷ 32 ∷ 49 ∷ 49 ∷ 10 ∷ 68 ∷ 32 ∷ 49 ∷ 50 ∷ 10 ∷ 69 ∷ 32 ∷ 49 ∷ 51 ∷ 10 ∷ [])
+    -- "27 before another byte than 63 is 6 at the 27", with a 127 between them too; reading starts again on it: C 0 KI 1, R 4 6 7, R 7 6 9, R 9 1 10, E 10
+    ∷ lists (27 ∷ 75 ∷ 73 ∷ 49 ∷ 27 ∷ 75 ∷ 65 ∷ 27 ∷ 127 ∷ 27 ∷ [])
+    (67 ∷ 32 ∷ 48 ∷ 32 ∷ 75 ∷ 73 ∷ 32 ∷ 49 ∷ 10 ∷ 82 ∷ 32 ∷ 52 ∷ 32 ∷ 54 ∷ 32 ∷ 55 ∷ 10 ∷ 82 ∷ 32 ∷ 55 ∷ 32 ∷ 54 ∷ 32 ∷ 57 ∷ 10 ∷ 82 ∷ 32 ∷ 57 ∷ 32 ∷ 49 ∷ 32 ∷ 49 ∷ 48 ∷ 10 ∷ 69 ∷ 32 ∷ 49 ∷ 48 ∷ 10 ∷ [])
+    -- KI's own bytes are read in the mode before it: C 0 KI 1009, C 5 KI 1, C 9 KI 1, E 14
+    ∷ lists (27 ∷ 75 ∷ 73 ∷ 127 ∷ 49 ∷ 27 ∷ 75 ∷ 73 ∷ 49 ∷ 27 ∷ 75 ∷ 73 ∷ 127 ∷ 49 ∷ [])
+    (67 ∷ 32 ∷ 48 ∷ 32 ∷ 75 ∷ 73 ∷ 32 ∷ 49 ∷ 48 ∷ 48 ∷ 57 ∷ 10 ∷ 67 ∷ 32 ∷ 53 ∷ 32 ∷ 75 ∷ 73 ∷ 32 ∷ 49 ∷ 10 ∷ 67 ∷ 32 ∷ 57 ∷ 32 ∷ 75 ∷ 73 ∷ 32 ∷ 49 ∷ 10 ∷ 69 ∷ 32 ∷ 49 ∷ 52 ∷ 10 ∷ [])
+    -- "A string is a count and that many bytes", a 127 passed over being none of them: C 0 KI 1, C 4 LT 2 65 66, E 11
+    ∷ lists (27 ∷ 75 ∷ 73 ∷ 49 ∷ 27 ∷ 76 ∷ 84 ∷ 50 ∷ 65 ∷ 127 ∷ 66 ∷ [])
+    (67 ∷ 32 ∷ 48 ∷ 32 ∷ 75 ∷ 73 ∷ 32 ∷ 49 ∷ 10 ∷ 67 ∷ 32 ∷ 52 ∷ 32 ∷ 76 ∷ 84 ∷ 32 ∷ 50 ∷ 32 ∷ 54 ∷ 53 ∷ 32 ∷ 54 ∷ 54 ∷ 10 ∷ 69 ∷ 32 ∷ 49 ∷ 49 ∷ 10 ∷ [])
+    -- "ESC 63 still reads as 127 in a parameter", with a 127 between the two too, and "KI 0 returns to the old reading": C 0 KI 1, C 4 LT 2 127 127, C 13 KI 0,
+    -- T 17 127, E 18
+    ∷ lists (27 ∷ 75 ∷ 73 ∷ 49 ∷ 27 ∷ 76 ∷ 84 ∷ 50 ∷ 27 ∷ 63 ∷ 27 ∷ 127 ∷ 63 ∷ 27 ∷ 75 ∷ 73 ∷ 48 ∷ 127 ∷ [])
+    (67 ∷ 32 ∷ 48 ∷ 32 ∷ 75 ∷ 73 ∷ 32 ∷ 49 ∷ 10 ∷ 67 ∷ 32 ∷ 52 ∷ 32 ∷ 76 ∷ 84 ∷ 32 ∷ 50 ∷ 32 ∷ 49 ∷ 50 ∷ 55 ∷ 32 ∷ 49 ∷ 50 ∷ 55 ∷ 10 ∷ 67 ∷ 32 ∷ 49 ∷ 51 ∷ 32 ∷ 75 ∷ 73 ∷ 32 ∷ 48 ∷ 10 ∷ 84 ∷ 32 ∷ 49 ∷ 55 ∷ 32 ∷ 49 ∷ 50 ∷ 55 ∷ 10 ∷ 69 ∷ 32 ∷ 49 ∷ 56 ∷ 10 ∷ [])
     -- M 4096
     ∷ record { given = lastLine true 4096; paper = (77 ∷ 32 ∷ 52 ∷ 48 ∷ 57 ∷ 54 ∷ 10 ∷ []) }
     -- a string: C 0 LT 2 72 73, of a longer list

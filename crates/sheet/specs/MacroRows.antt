@@ -3,10 +3,14 @@ use Prim.Native.Nat.{ℕ, _+_}
 use mathlib.Core.List.{List, [], _∷_, _++_, map}
 use lib.ListN.{length, replicate}
 use lib.IntN.{ℤ, pos}
+use Rattle.memory.specs.declared.Remembered.{Remembered}
+use Rattle.memory.specs.Memory.{freshMemory}
+use Rattle.refusals.specs.Answers.{Answer, done, refused}
 use Rattle.macros.specs.Store.{Entry, threeBytes, encoded, lookedUp, findRefusal, Placed, placed}
 use Rattle.defining.specs.Defining.{defineRefusal, storeAfter}
-use Rattle.expansion.specs.Expansion.{ExpansionAnswer, expandTold, expandOut}
-use Rattle.sheet.specs.Rows.{SheetRow}
+use Rattle.expansion.specs.declared.Expanded.{Expanded}
+use Rattle.expansion.specs.Expansion.{expandTold, expandOut}
+use Rattle.sheet.specs.Rows.{SheetRow, padded, kept-is}
 
 -- ---- stores
 
@@ -70,44 +74,68 @@ kx n = 27 ∷ 75 ∷ 88 ∷ (48 + n) ∷ []
 abbrev pub kxNegative : List ℕ
 kxNegative = (27 ∷ 75 ∷ 88 ∷ 33 ∷ [])
 
+-- a call with a 127 before its number, and KI 1
+abbrev pub padKx : ℕ → List ℕ
+padKx n = 27 ∷ 75 ∷ 88 ∷ 127 ∷ (48 + n) ∷ []
+
+abbrev pub kiOne : List ℕ
+kiOne = (27 ∷ 75 ∷ 73 ∷ 49 ∷ [])
+
 -- the macros 1 to 8, each calling the next; the last has this body
 abbrev pub chain : List ℕ → List Entry
 chain last =
     (macro 1 (kx 2) ∷ macro 2 (kx 3) ∷ macro 3 (kx 4) ∷ macro 4 (kx 5) ∷ macro 5 (kx 6) ∷ macro 6 (kx 7) ∷ macro 7 (kx 8) ∷ macro 8 last ∷ [])
 
--- a macro expanded from a volatile and a saved store into three bytes 9: the refusal, bytes written, macros entered, and the output
-abbrev expand : (volatile saved : List Entry) → ℤ → (number written entered : ℕ) → List ℕ → SheetRow
-expand v s n number written entered out =
-    let t : ExpansionAnswer = expandTold (encoded threeBytes v) (encoded threeBytes s) n 3 in
-    record {
-      given = t .number ∷ t .written ∷ t .entered ∷ expandOut (encoded threeBytes v) (encoded threeBytes s) n (replicate 3 9);
-      paper = number ∷ written ∷ entered ∷ out;
-    }
+-- an expansion: 0, bytes written, macros entered and what is then remembered, or the refusal and 0 for each of the two
+abbrev expansionIs : Answer Expanded → List ℕ
+expansionIs (done t) = 0 ∷ t .written ∷ t .entered ∷ kept-is (t .kept)
+expansionIs (refused e p) = e ∷ 0 ∷ 0 ∷ []
 
-abbrev untouched : List ℕ
-untouched = (9 ∷ 9 ∷ 9 ∷ [])
+-- and the output behind it
+abbrev pub expanded-from : Remembered → (volatile saved : List Entry) → ℤ → (out : List ℕ) → List ℕ
+expanded-from kept v s n out =
+    expansionIs (expandTold (encoded threeBytes v) (encoded threeBytes s) n kept (length out)) ++ expandOut (encoded threeBytes v) (encoded threeBytes s) n kept out
+
+-- a macro expanded from a volatile and a saved store into three bytes 9: bytes written, macros entered, and the output; what is remembered stays
+abbrev expands : (volatile saved : List Entry) → ℤ → (written entered : ℕ) → List ℕ → SheetRow
+expands v s n written entered out = record {
+  given = expanded-from freshMemory v s n (replicate 3 9);
+  paper = 0 ∷ written ∷ entered ∷ (kept-is freshMemory ++ out);
+}
+
+-- and one that is refused: the output is as it was
+abbrev refuses : (volatile saved : List Entry) → ℤ → (number : ℕ) → SheetRow
+refuses v s n number = record { given = expanded-from freshMemory v s n (replicate 3 9); paper = number ∷ 0 ∷ 0 ∷ replicate 3 9 }
 
 abbrev pub expansion-examples : List SheetRow
 expansion-examples =
     -- a nested macro, from either store; the volatile one first
-    expand (macro 1 (65 ∷ (kx 2 ++ (66 ∷ []))) ∷ macro 2 (67 ∷ []) ∷ []) [] (pos 1) 0 3 2 (65 ∷ 67 ∷ 66 ∷ [])
-    ∷ expand (macro 1 (65 ∷ kx 2) ∷ []) (macro 1 (68 ∷ []) ∷ macro 2 (67 ∷ []) ∷ []) (pos 1) 0 2 2 (65 ∷ 67 ∷ 9 ∷ [])
+    expands (macro 1 (65 ∷ (kx 2 ++ (66 ∷ []))) ∷ macro 2 (67 ∷ []) ∷ []) [] (pos 1) 3 2 (65 ∷ 67 ∷ 66 ∷ [])
+    ∷ expands (macro 1 (65 ∷ kx 2) ∷ []) (macro 1 (68 ∷ []) ∷ macro 2 (67 ∷ []) ∷ []) (pos 1) 2 2 (65 ∷ 67 ∷ 9 ∷ [])
     -- an absent nested macro gives nothing and isn't entered
-    ∷ expand (macro 1 (65 ∷ (kx 2 ++ (66 ∷ []))) ∷ []) [] (pos 1) 0 2 1 (65 ∷ 66 ∷ 9 ∷ [])
+    ∷ expands (macro 1 (65 ∷ (kx 2 ++ (66 ∷ []))) ∷ []) [] (pos 1) 2 1 (65 ∷ 66 ∷ 9 ∷ [])
     -- too short, and another trouble first
-    ∷ expand (macro 1 (65 ∷ 65 ∷ 65 ∷ 65 ∷ []) ∷ []) [] (pos 1) 7 0 0 untouched
-    ∷ expand (macro 1 (65 ∷ 65 ∷ 65 ∷ 65 ∷ 27 ∷ []) ∷ []) [] (pos 1) 17 0 0 untouched
+    ∷ refuses (macro 1 (65 ∷ 65 ∷ 65 ∷ 65 ∷ []) ∷ []) [] (pos 1) 7
+    ∷ refuses (macro 1 (65 ∷ 65 ∷ 65 ∷ 65 ∷ 27 ∷ []) ∷ []) [] (pos 1) 17
     -- the start
-    ∷ expand [] [] (pos 1) 14 0 0 untouched
-    ∷ expand [] [] (pos 32768) 8 0 0 untouched
-    ∷ expand [] (macro 1 [] ∷ []) (pos 32768) 12 0 0 untouched
+    ∷ refuses [] [] (pos 1) 14
+    ∷ refuses [] [] (pos 32768) 8
+    ∷ refuses [] (macro 1 [] ∷ []) (pos 32768) 12
     -- refused and cut commands, and which trouble is the first
-    ∷ expand (macro 1 (65 ∷ 27 ∷ 90 ∷ []) ∷ []) [] (pos 1) 17 0 0 untouched
-    ∷ expand (macro 1 (kxNegative ++ (27 ∷ [])) ∷ []) [] (pos 1) 8 0 0 untouched
-    ∷ expand (macro 1 (kx 2 ++ kxNegative) ∷ macro 2 (27 ∷ []) ∷ []) [] (pos 1) 17 0 0 untouched
+    ∷ refuses (macro 1 (65 ∷ 27 ∷ 90 ∷ []) ∷ []) [] (pos 1) 17
+    ∷ refuses (macro 1 (kxNegative ++ (27 ∷ [])) ∷ []) [] (pos 1) 8
+    ∷ refuses (macro 1 (kx 2 ++ kxNegative) ∷ macro 2 (27 ∷ []) ∷ []) [] (pos 1) 17
     -- depth 8, and a call inside it
-    ∷ expand (chain (65 ∷ [])) [] (pos 1) 0 1 8 (65 ∷ 9 ∷ 9 ∷ [])
-    ∷ expand (chain (kx 9)) [] (pos 1) 15 0 0 untouched
-    ∷ expand (chain kxNegative) [] (pos 1) 8 0 0 untouched
-    ∷ expand (macro 1 (kx 1) ∷ []) [] (pos 1) 15 0 0 untouched
+    ∷ expands (chain (65 ∷ [])) [] (pos 1) 1 8 (65 ∷ 9 ∷ 9 ∷ [])
+    ∷ refuses (chain (kx 9)) [] (pos 1) 15
+    ∷ refuses (chain kxNegative) [] (pos 1) 8
+    ∷ refuses (macro 1 (kx 1) ∷ []) [] (pos 1) 15
+    -- "Macro bodies are read in the caller's mode, and a KI in a body holds from there on": a KX with a 127 in it calls macro 2 behind KI 1, and macro 1010,
+    -- which is absent, before it
+    ∷ record { given = expanded-from padded (macro 1 (padKx 2) ∷ macro 2 (67 ∷ []) ∷ []) [] (pos 1) (replicate 3 9); paper = 0 ∷ 1 ∷ 2 ∷ (kept-is padded ++ (67 ∷ 9 ∷ 9 ∷ [])) }
+    ∷ expands (macro 1 (padKx 2) ∷ macro 2 (67 ∷ []) ∷ []) [] (pos 1) 0 1 (9 ∷ 9 ∷ 9 ∷ [])
+    -- into the body that called it, and behind the expansion
+    ∷ record { given = expanded-from freshMemory (macro 1 (kx 2 ++ padKx 3) ∷ macro 2 kiOne ∷ macro 3 (67 ∷ []) ∷ []) [] (pos 1) (replicate 5 9); paper = 0 ∷ 5 ∷ 3 ∷ (kept-is padded ++ (kiOne ++ (67 ∷ []))) }
+    -- a DEL that is an item is copied as others are
+    ∷ record { given = expanded-from padded (macro 1 (65 ∷ 127 ∷ 66 ∷ []) ∷ []) [] (pos 1) (replicate 3 9); paper = 0 ∷ 3 ∷ 1 ∷ (kept-is padded ++ (65 ∷ 127 ∷ 66 ∷ [])) }
     ∷ []

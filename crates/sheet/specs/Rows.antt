@@ -5,6 +5,8 @@ use mathlib.Core.List.{List, [], _∷_, _++_}
 use lib.Dec.{eqb}
 use lib.IntN.{ℤ, pos, negsuc}
 use Rattle.memory.specs.declared.Point.{Point}
+use Rattle.memory.specs.declared.DelMode.{DelMode}
+use Rattle.memory.specs.declared.DelMode.the-variants.{Data, Filler}
 use Rattle.memory.specs.declared.Remembered.{Remembered}
 use Rattle.refusals.specs.Answers.{Answer, done, refused, Read}
 
@@ -55,8 +57,16 @@ signsOf (v ∷ vs) = signs v ++ signsOf vs
 abbrev pub at : ℕ → ℕ → Point
 at x y = record { x = x; y = y }
 
+-- what is remembered: a point, and the DEL mode of before KI 1, or that behind it
 abbrev pub from : ℕ → ℕ → Remembered
-from x y = record { point = at x y }
+from x y = record { point = at x y; mode = Data }
+
+abbrev pub paddedFrom : ℕ → ℕ → Remembered
+paddedFrom x y = record { point = at x y; mode = Filler }
+
+-- "Hosts that pad with DEL set IGNORE DELETES first": what is remembered behind a KI 1 alone
+abbrev pub padded : Remembered
+padded = paddedFrom 0 0
 
 -- a reading: 0, the value, the place of its last byte and where reading goes on; or the refusal and its place
 abbrev pub readingOf : {A : Type 0} → (A → List ℕ) → Answer (Read A) → List ℕ
@@ -68,6 +78,14 @@ number-is n = (n ∷ [])
 
 abbrev pub point-is : Point → List ℕ
 point-is p = (p .x ∷ p .y ∷ [])
+
+-- what is remembered: x, y, and the mode, 1 where a plain 127 is passed over
+abbrev pub mode-is : DelMode → ℕ
+mode-is Data = 0
+mode-is Filler = 1
+
+abbrev pub kept-is : Remembered → List ℕ
+kept-is kept = (kept .point .x ∷ kept .point .y ∷ mode-is (kept .mode) ∷ [])
 
 -- a writing: 0 and where the next byte goes, or the refusal and 0; and the output behind it
 abbrev pub writingOf : Answer ℕ → List ℕ → List ℕ

@@ -6,7 +6,7 @@ use lib.IntN.{ℤ, pos, negsuc}
 use Rattle.memory.specs.declared.Point.{Point}
 use Rattle.memory.specs.Memory.{freshMemory}
 use Rattle.refusals.specs.Answers.{number}
-use Rattle.wire.specs.Taking.{byteAt, pairAt}
+use Rattle.wire.specs.Taking.{pastDels, foundAt, byteAt, pairAt}
 use Rattle.numbers.specs.Integers.{spell, spellOf, highsOf, integerAt, integerFrom}
 use Rattle.points.specs.Writing.{spellPoint, spellBytes}
 use Rattle.beam.specs.Settings.{freshBeam, withBits, stepped}
@@ -51,5 +51,5 @@ sheet =
 
 -- the one claim
 pub all-as-set : map given-of sheet ≡ map paper-of sheet
-unfolding number spellOf highsOf integerFrom byteAt pairAt spellBytes rasterMarks characterMarks leftAfter pixels runMarks moved stepped colours
+unfolding number spellOf highsOf integerFrom pastDels foundAt byteAt pairAt spellBytes rasterMarks characterMarks leftAfter pixels runMarks moved stepped colours
 all-as-set = refl

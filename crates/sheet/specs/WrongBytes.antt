@@ -9,12 +9,14 @@ use Rattle.refusals.specs.declared.Refusal.the-variants.{IntegerOutside, TooSho
 use Rattle.refusals.specs.Refusals.{numberOf}
 use Rattle.refusals.specs.Answers.{every}
 use Rattle.memory.specs.declared.Point.{Point}
-use Rattle.memory.specs.Memory.{freshMemory, inside, remember}
-use Rattle.wire.specs.Taking.{byteAt, threeAhead}
+use Rattle.memory.specs.declared.DelMode.the-variants.{Data, Filler}
+use Rattle.memory.specs.declared.Remembered.{Remembered}
+use Rattle.memory.specs.Memory.{freshMemory, inside, remember, inMode}
+use Rattle.wire.specs.Taking.{pastDels, byteAt, threeAhead}
 use Rattle.wire.specs.Sending.{sent, isPlain, roomFor, inRoom, writeAt, afterWrite}
 use Rattle.ranges.specs.Ranges.{within}
 use Rattle.characters.specs.Characters.{isCharacter, areCharacters, lowBytes}
-use Rattle.sheet.specs.Rows.{Wrong, but, joined, truth, at, readingOf, number-is, point-is, writingOf}
+use Rattle.sheet.specs.Rows.{Wrong, but, joined, truth, at, from, padded, readingOf, number-is, kept-is, writingOf}
 
 -- ---- refusals
 
@@ -31,8 +33,10 @@ wrong-number =
 abbrev pub wrong-fresh : List Wrong
 wrong-fresh =
     -- "A fresh remembered point is (0,0)": not the upper left, and not one to the right
-    but (point-is (freshMemory .point)) (0 ∷ 4095 ∷ [])
-    ∷ but (point-is (freshMemory .point)) (1 ∷ 0 ∷ [])
+    but (kept-is freshMemory) (0 ∷ 4095 ∷ 0 ∷ [])
+    ∷ but (kept-is freshMemory) (1 ∷ 0 ∷ 0 ∷ [])
+    -- "The mode goes with the remembered point, fresh 0"
+    ∷ but (kept-is freshMemory) (0 ∷ 0 ∷ 1 ∷ [])
     ∷ []
 
 abbrev pub wrong-is-inside : List Wrong
@@ -45,14 +49,42 @@ wrong-is-inside =
 abbrev pub wrong-with-point : List Wrong
 wrong-with-point =
     -- a point is remembered, and whole
-    but (point-is (remember freshMemory (at 1 2) .point)) (1 ∷ 0 ∷ [])
-    ∷ but (point-is (remember freshMemory (at 1 2) .point)) (0 ∷ 0 ∷ [])
+    but (kept-is (remember freshMemory (at 1 2))) (1 ∷ 0 ∷ 0 ∷ [])
+    ∷ but (kept-is (remember freshMemory (at 1 2))) (0 ∷ 0 ∷ 0 ∷ [])
+    -- "The mode goes with the remembered point": a point does not change it
+    ∷ but (kept-is (remember padded (at 1 2))) (1 ∷ 2 ∷ 0 ∷ [])
+    ∷ but (kept-is (remember freshMemory (at 1 2))) (1 ∷ 2 ∷ 1 ∷ [])
+    ∷ []
+
+abbrev pub wrong-with-mode : List Wrong
+wrong-with-mode =
+    -- the mode is remembered, and the point stays
+    but (kept-is (inMode (from 1 2) Filler)) (1 ∷ 2 ∷ 0 ∷ [])
+    ∷ but (kept-is (inMode (from 1 2) Filler)) (0 ∷ 0 ∷ 1 ∷ [])
+    -- "KI 0 returns to the old reading"
+    ∷ but (kept-is (inMode padded Data)) (0 ∷ 0 ∷ 1 ∷ [])
     ∷ []
 
 -- ---- wire
 
+abbrev pub wrong-past-dels : List Wrong
+wrong-past-dels =
+    -- "After KI 1 each plain 127 .. is passed over": all of them, and where the bytes end behind them too
+    but (pastDels Filler (127 ∷ 127 ∷ 65 ∷ []) 0 ∷ []) (1 ∷ [])
+    ∷ but (pastDels Filler (127 ∷ 65 ∷ []) 0 ∷ []) (0 ∷ [])
+    ∷ but (pastDels Filler (127 ∷ []) 0 ∷ []) (0 ∷ [])
+    -- no other byte is, and none behind it
+    ∷ but (pastDels Filler (65 ∷ 127 ∷ []) 0 ∷ []) (2 ∷ [])
+    ∷ but (pastDels Filler (255 ∷ 65 ∷ []) 0 ∷ []) (1 ∷ [])
+    -- "KI 0 returns to the old reading": none is passed over
+    ∷ but (pastDels Data (127 ∷ 65 ∷ []) 0 ∷ []) (1 ∷ [])
+    ∷ []
+
+abbrev taking-from : Remembered → List ℕ → List ℕ → Wrong
+taking-from kept s wrong = but (readingOf number-is (byteAt kept s 0)) wrong
+
 abbrev taking : List ℕ → List ℕ → Wrong
-taking s wrong = but (readingOf number-is (byteAt freshMemory s 0)) wrong
+taking s wrong = taking-from freshMemory s wrong
 
 abbrev pub wrong-take : List Wrong
 wrong-take =
@@ -66,12 +98,40 @@ wrong-take =
     ∷ taking (27 ∷ 63 ∷ []) (0 ∷ 127 ∷ 0 ∷ 2 ∷ [])
     -- 3: "byte not allowed here": 128 is no character
     ∷ taking (128 ∷ []) (0 ∷ 128 ∷ 0 ∷ 1 ∷ [])
+    -- "127 is data wherever a parameter allows it", where no KI 1 came; and no pair has one between
+    ∷ taking (127 ∷ 65 ∷ []) (0 ∷ 65 ∷ 1 ∷ 2 ∷ [])
+    ∷ taking (27 ∷ 127 ∷ 63 ∷ []) (0 ∷ 127 ∷ 2 ∷ 3 ∷ [])
+    ∷ taking (27 ∷ 127 ∷ []) (1 ∷ 2 ∷ [])
+    -- "After KI 1 each plain 127 .. is passed over": it is no data, and not the byte's place
+    ∷ taking-from padded (127 ∷ 65 ∷ []) (0 ∷ 127 ∷ 0 ∷ 1 ∷ [])
+    ∷ taking-from padded (127 ∷ 65 ∷ []) (0 ∷ 65 ∷ 0 ∷ 2 ∷ [])
+    ∷ taking-from padded (127 ∷ 127 ∷ 65 ∷ []) (0 ∷ 127 ∷ 1 ∷ 2 ∷ [])
+    -- none behind the byte is: it "belongs to the item in progress, or makes an item of its own"
+    ∷ taking-from padded (65 ∷ 127 ∷ []) (0 ∷ 65 ∷ 0 ∷ 2 ∷ [])
+    -- where the bytes end behind it "place is the length"
+    ∷ taking-from padded (127 ∷ []) (0 ∷ 127 ∷ 0 ∷ 1 ∷ [])
+    ∷ taking-from padded (127 ∷ []) (1 ∷ 0 ∷ [])
+    -- "ESC 63 still reads as 127 in a parameter": it is not passed over
+    ∷ taking-from padded (27 ∷ 63 ∷ 65 ∷ []) (0 ∷ 65 ∷ 2 ∷ 3 ∷ [])
+    -- "A 127 between the two bytes of a pair is passed over too": the pair is not refused, and the 127 is not its second byte
+    ∷ taking-from padded (27 ∷ 127 ∷ 63 ∷ []) (6 ∷ 0 ∷ [])
+    ∷ taking-from padded (27 ∷ 127 ∷ 63 ∷ []) (0 ∷ 127 ∷ 1 ∷ 2 ∷ [])
+    -- "a pair's place stays that of the 63"
+    ∷ taking-from padded (27 ∷ 127 ∷ 63 ∷ []) (0 ∷ 127 ∷ 0 ∷ 3 ∷ [])
+    ∷ taking-from padded (27 ∷ 127 ∷ 63 ∷ []) (0 ∷ 127 ∷ 1 ∷ 3 ∷ [])
+    -- "27 before another byte than 63 is 6 at the 27": not at the 127, and not at that byte
+    ∷ taking-from padded (27 ∷ 127 ∷ 65 ∷ []) (6 ∷ 1 ∷ [])
+    ∷ taking-from padded (27 ∷ 127 ∷ 65 ∷ []) (6 ∷ 2 ∷ [])
+    -- "27 at the end of the bytes is 1", with the 127s passed over: not 6, and not at the 27
+    ∷ taking-from padded (27 ∷ 127 ∷ []) (6 ∷ 0 ∷ [])
+    ∷ taking-from padded (27 ∷ 127 ∷ []) (1 ∷ 0 ∷ [])
     ∷ []
 
 abbrev pub wrong-three-ahead : List Wrong
 wrong-three-ahead =
-    -- no byte above 127 is taken as it stands, and two bytes are not three
+    -- no byte above 127 is taken as it stands, nor is 127 whatever is remembered; and two bytes are not three
     but (truth (threeAhead (64 ∷ 128 ∷ 48 ∷ []) 0)) (1 ∷ [])
+    ∷ but (truth (threeAhead (64 ∷ 127 ∷ 48 ∷ []) 0)) (1 ∷ [])
     ∷ but (truth (threeAhead (64 ∷ 48 ∷ []) 0)) (1 ∷ [])
     ∷ []
 
@@ -103,15 +163,32 @@ wrong-write-bytes =
     ∷ bytes-written (1 ∷ 2 ∷ []) (9 ∷ 9 ∷ 9 ∷ []) 1 (0 ∷ 3 ∷ 9 ∷ 1 ∷ 1 ∷ [])
     ∷ []
 
+abbrev pub wrong-store-behind : List Wrong
+wrong-store-behind =
+    -- one byte behind the start, and as it stands: a 127 too
+    but (sets (9 ∷ 9 ∷ 9 ∷ []) (0 + 1) (127 ∷ [])) (127 ∷ 9 ∷ 9 ∷ [])
+    ∷ but (sets (9 ∷ 9 ∷ 9 ∷ []) (0 + 1) (127 ∷ [])) (9 ∷ 27 ∷ 63 ∷ [])
+    ∷ []
+
 -- bytes poured from a place on: how many they are, and the output
+abbrev pouring-from : Remembered → List ℕ → List ℕ → ℕ → List ℕ → Wrong
+pouring-from kept w out start wrong = but (length (sent kept w) ∷ sets out start (sent kept w)) wrong
+
 abbrev pouring : List ℕ → List ℕ → ℕ → List ℕ → Wrong
-pouring w out start wrong = but (length (sent freshMemory w) ∷ sets out start (sent freshMemory w)) wrong
+pouring w out start wrong = pouring-from freshMemory w out start wrong
 
 abbrev pub wrong-pour-behind : List Wrong
 wrong-pour-behind =
     -- one byte behind the start: it is sent itself, and not over the first
     pouring (5 ∷ []) (9 ∷ 9 ∷ []) (0 + 1) (1 ∷ 9 ∷ 0 ∷ [])
     ∷ pouring (5 ∷ []) (9 ∷ 9 ∷ []) (0 + 1) (1 ∷ 5 ∷ 9 ∷ [])
+    -- "ESC 63 still reads as 127 in a parameter, and the writer in that mode writes it so": both bytes, counted, and in this order
+    ∷ pouring-from padded (127 ∷ []) (9 ∷ 9 ∷ 9 ∷ []) (0 + 1) (1 ∷ 9 ∷ 127 ∷ 9 ∷ [])
+    ∷ pouring-from padded (127 ∷ []) (9 ∷ 9 ∷ 9 ∷ []) (0 + 1) (1 ∷ 9 ∷ 27 ∷ 63 ∷ [])
+    ∷ pouring-from padded (127 ∷ []) (9 ∷ 9 ∷ 9 ∷ []) (0 + 1) (2 ∷ 9 ∷ 63 ∷ 27 ∷ [])
+    -- no other byte is sent so, and none in the other mode: "the writer writes 127"
+    ∷ pouring-from padded (63 ∷ []) (9 ∷ 9 ∷ 9 ∷ []) (0 + 1) (2 ∷ 9 ∷ 27 ∷ 63 ∷ [])
+    ∷ pouring (127 ∷ []) (9 ∷ 9 ∷ 9 ∷ []) (0 + 1) (2 ∷ 9 ∷ 27 ∷ 63 ∷ [])
     ∷ []
 
 abbrev pub wrong-pour-one : List Wrong
@@ -119,6 +196,8 @@ wrong-pour-one =
     -- not to the front, and not one behind
     pouring (5 ∷ []) (9 ∷ 9 ∷ 9 ∷ []) 1 (1 ∷ 5 ∷ 9 ∷ 9 ∷ [])
     ∷ pouring (5 ∷ []) (9 ∷ 9 ∷ 9 ∷ []) 1 (1 ∷ 9 ∷ 9 ∷ 5 ∷ [])
+    -- "the writer in that mode writes it so"
+    ∷ pouring-from padded (127 ∷ []) (9 ∷ 9 ∷ 9 ∷ []) 1 (1 ∷ 9 ∷ 127 ∷ 9 ∷ [])
     ∷ []
 
 abbrev pub wrong-pour-two : List Wrong
@@ -126,6 +205,9 @@ wrong-pour-two =
     -- one behind the other, each as itself
     pouring (5 ∷ 6 ∷ []) (9 ∷ 9 ∷ []) 0 (2 ∷ 6 ∷ 9 ∷ [])
     ∷ pouring (5 ∷ 6 ∷ []) (9 ∷ 9 ∷ []) 0 (2 ∷ 6 ∷ 6 ∷ [])
+    -- behind a pair, and not over its 63
+    ∷ pouring-from padded (127 ∷ 5 ∷ []) (9 ∷ 9 ∷ 9 ∷ []) 0 (2 ∷ 127 ∷ 5 ∷ 9 ∷ [])
+    ∷ pouring-from padded (127 ∷ 5 ∷ []) (9 ∷ 9 ∷ 9 ∷ []) 0 (3 ∷ 27 ∷ 5 ∷ 9 ∷ [])
     ∷ []
 
 abbrev pub wrong-pour-three : List Wrong
@@ -133,12 +215,16 @@ wrong-pour-three =
     -- in their order, and all three
     pouring (5 ∷ 6 ∷ 7 ∷ []) (9 ∷ 9 ∷ 9 ∷ []) 0 (3 ∷ 6 ∷ 5 ∷ 7 ∷ [])
     ∷ pouring (5 ∷ 6 ∷ 7 ∷ []) (9 ∷ 9 ∷ 9 ∷ []) 0 (3 ∷ 5 ∷ 6 ∷ 6 ∷ [])
+    -- a 127 among them is a pair, and the third is behind it
+    ∷ pouring-from padded (5 ∷ 127 ∷ 6 ∷ []) (9 ∷ 9 ∷ 9 ∷ 9 ∷ []) 0 (3 ∷ 5 ∷ 127 ∷ 6 ∷ 9 ∷ [])
+    ∷ pouring-from padded (5 ∷ 127 ∷ 6 ∷ []) (9 ∷ 9 ∷ 9 ∷ 9 ∷ []) 0 (4 ∷ 5 ∷ 27 ∷ 6 ∷ 9 ∷ [])
     ∷ []
 
 abbrev pub wrong-is-plain : List Wrong
 wrong-is-plain =
-    -- "the writer writes 127": each byte is sent as itself
+    -- "the writer writes 127": each byte is sent as itself; behind KI 1 it "writes it so", as 27 63
     but (truth (isPlain freshMemory)) (0 ∷ [])
+    ∷ but (truth (isPlain padded)) (1 ∷ [])
     ∷ []
 
 -- ---- ranges
@@ -195,11 +281,14 @@ column-of-bytes =
     ∷ wrong-fresh
     ∷ wrong-is-inside
     ∷ wrong-with-point
+    ∷ wrong-with-mode
+    ∷ wrong-past-dels
     ∷ wrong-take
     ∷ wrong-three-ahead
     ∷ wrong-room-for
     ∷ wrong-in-room
     ∷ wrong-write-bytes
+    ∷ wrong-store-behind
     ∷ wrong-pour-behind
     ∷ wrong-pour-one
     ∷ wrong-pour-two

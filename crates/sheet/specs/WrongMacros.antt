@@ -3,14 +3,18 @@ use Prim.Native.Nat.{ℕ, suc}
 use mathlib.Core.List.{List, [], _∷_, _++_, map}
 use lib.ListN.{length, replicate}
 use lib.IntN.{ℤ, pos}
+use Rattle.refusals.specs.Answers.{Answer, number}
+use Rattle.memory.specs.declared.Remembered.{Remembered}
 use Rattle.memory.specs.Memory.{freshMemory}
 use Rattle.macros.specs.Store.{Entry, threeBytes, encoded, sizeOf, below, entries, wellFormed, lookedUp, findRefusal, Placed, placed, bodyPointer, placedByHeaders, lookedByHeaders}
 use Rattle.defining.specs.Defining.{defineRefusal, storeAfter}
 use Rattle.pieces.specs.Pieces.{Pieced, end, copied, called, trouble, pieceAt}
-use Rattle.expansion.specs.Expansion.{ExpansionAnswer, expandTold, expandOut}
-use Rattle.macro_calls.specs.Slots.{placeFields, countFields}
-use Rattle.sheet.specs.Rows.{Wrong, but, joined, truth, signs}
-use Rattle.sheet.specs.MacroRows.{macro, kx, kxNegative, chain, five, other}
+use Rattle.expansion.specs.declared.Expanded.{Expanded}
+use Rattle.expansion.specs.Expansion.{expandTold, expandOut}
+use Rattle.coordinates.specs.Remembering.{keptIn}
+use Rattle.macro_calls.specs.Slots.{placeFields, countFields, slotsBehind}
+use Rattle.sheet.specs.Rows.{Wrong, but, joined, truth, signs, from, padded, kept-is}
+use Rattle.sheet.specs.MacroRows.{macro, kx, kxNegative, padKx, kiOne, chain, five, other, expanded-from}
 
 -- a store with a body of 256 bytes
 abbrev longest : List ℕ
@@ -143,38 +147,47 @@ wrong-look-by-headers =
 
 -- ---- pieces
 
--- 0 none is left; 1 copied: the next start, the remembered point; 2 called: the number, the next start, the remembered point; 3 the trouble's number
+-- 0 none is left; 1 copied: the next start, what is remembered; 2 called: the number, the next start, what is remembered; 3 the trouble's number
 abbrev pieceIs : Pieced → List ℕ
 pieceIs end = (0 ∷ [])
-pieceIs (copied n k) = (1 ∷ n ∷ k .point .x ∷ k .point .y ∷ [])
-pieceIs (called v n k) = 2 ∷ (signs v ++ (n ∷ k .point .x ∷ k .point .y ∷ []))
+pieceIs (copied n k) = 1 ∷ n ∷ kept-is k
+pieceIs (called v n k) = 2 ∷ (signs v ++ (n ∷ kept-is k))
 pieceIs (trouble e) = (3 ∷ e ∷ [])
 
+abbrev piece-from : Remembered → List ℕ → ℕ → List ℕ → Wrong
+piece-from kept body start wrong = but (pieceIs (pieceAt kept body start)) wrong
+
 abbrev piece : List ℕ → ℕ → List ℕ → Wrong
-piece body start wrong = but (pieceIs (pieceAt freshMemory body start)) wrong
+piece body start wrong = piece-from freshMemory body start wrong
 
 abbrev pub wrong-piece-at : List Wrong
 wrong-piece-at =
     -- "KD and KO are copied and not obeyed", and KA is no call
-    piece (27 ∷ 75 ∷ 68 ∷ 53 ∷ 48 ∷ []) 0 (2 ∷ 0 ∷ 5 ∷ 5 ∷ 0 ∷ 0 ∷ [])
-    ∷ piece (27 ∷ 75 ∷ 65 ∷ 53 ∷ []) 0 (2 ∷ 0 ∷ 5 ∷ 4 ∷ 0 ∷ 0 ∷ [])
+    piece (27 ∷ 75 ∷ 68 ∷ 53 ∷ 48 ∷ []) 0 (2 ∷ 0 ∷ 5 ∷ 5 ∷ 0 ∷ 0 ∷ 0 ∷ [])
+    ∷ piece (27 ∷ 75 ∷ 65 ∷ 53 ∷ []) 0 (2 ∷ 0 ∷ 5 ∷ 4 ∷ 0 ∷ 0 ∷ 0 ∷ [])
     -- 17: "macro body holds a refused or cut command": it is no end, and no text
     ∷ piece (27 ∷ []) 0 (0 ∷ [])
-    ∷ piece (27 ∷ []) 0 (1 ∷ 1 ∷ 0 ∷ 0 ∷ [])
+    ∷ piece (27 ∷ []) 0 (1 ∷ 1 ∷ 0 ∷ 0 ∷ 0 ∷ [])
     -- what is not read is no end of the body
     ∷ piece (65 ∷ []) 2 (0 ∷ [])
     -- a text byte takes one byte
-    ∷ piece (65 ∷ []) 0 (1 ∷ 0 ∷ 0 ∷ 0 ∷ [])
+    ∷ piece (65 ∷ []) 0 (1 ∷ 0 ∷ 0 ∷ 0 ∷ 0 ∷ [])
     -- "A count is an integer 0..256": an array of 256 is no trouble
     ∷ piece ((27 ∷ 82 ∷ 68 ∷ 80 ∷ 48 ∷ []) ++ replicate 256 48) 0 (3 ∷ 17 ∷ [])
+    -- "copies a body's items": a DEL that is an item is one of them, and takes one byte
+    ∷ piece-from padded (127 ∷ 65 ∷ []) 0 (3 ∷ 17 ∷ [])
+    ∷ piece-from padded (127 ∷ 65 ∷ []) 0 (1 ∷ 2 ∷ 0 ∷ 0 ∷ 1 ∷ [])
+    -- "a KI in a body holds from there on"
+    ∷ piece kiOne 0 (1 ∷ 4 ∷ 0 ∷ 0 ∷ 0 ∷ [])
+    -- "Macro bodies are read in the caller's mode": KX 5, and not KX 1013; and the other way round
+    ∷ piece-from padded (padKx 5) 0 (2 ∷ 0 ∷ 1013 ∷ 5 ∷ 0 ∷ 0 ∷ 1 ∷ [])
+    ∷ piece (padKx 5) 0 (2 ∷ 0 ∷ 5 ∷ 5 ∷ 0 ∷ 0 ∷ 0 ∷ [])
     ∷ []
 
--- ---- expansion: the refusal, bytes written, macros entered, and the output
+-- ---- expansion: the refusal, bytes written, macros entered, where it is done what is then remembered, and the output
 
 abbrev expanded : (volatile saved : List Entry) → ℤ → List ℕ → List ℕ
-expanded v s n out =
-    let t : ExpansionAnswer = expandTold (encoded threeBytes v) (encoded threeBytes s) n (length out) in
-    t .number ∷ t .written ∷ t .entered ∷ expandOut (encoded threeBytes v) (encoded threeBytes s) n out
+expanded v s n out = expanded-from freshMemory v s n out
 
 abbrev from-one : List ℕ → List ℕ → Wrong
 from-one body wrong = but (expanded (macro 1 body ∷ []) [] (pos 1) (9 ∷ 9 ∷ 9 ∷ [])) wrong
@@ -186,13 +199,13 @@ around = 65 ∷ (kx 2 ++ (66 ∷ []))
 abbrev pub wrong-expand : List Wrong
 wrong-expand =
     -- "An absent nested macro gives nothing and isn't entered"
-    from-one around (0 ∷ 2 ∷ 2 ∷ 65 ∷ 66 ∷ 9 ∷ [])
+    from-one around (0 ∷ 2 ∷ 2 ∷ 0 ∷ 0 ∷ 0 ∷ 65 ∷ 66 ∷ 9 ∷ [])
     -- 17: "macro body holds a refused or cut command"
-    ∷ from-one (65 ∷ 27 ∷ []) (0 ∷ 1 ∷ 1 ∷ 65 ∷ 9 ∷ 9 ∷ [])
+    ∷ from-one (65 ∷ 27 ∷ []) (0 ∷ 1 ∷ 1 ∷ 0 ∷ 0 ∷ 0 ∷ 65 ∷ 9 ∷ 9 ∷ [])
     -- one "that invents its .. macro count"; "the starting macro .. counts as the first entered"
-    ∷ but (expanded (macro 1 around ∷ macro 2 (67 ∷ []) ∷ []) [] (pos 1) (9 ∷ 9 ∷ 9 ∷ [])) (0 ∷ 3 ∷ 1 ∷ 65 ∷ 67 ∷ 66 ∷ [])
+    ∷ but (expanded (macro 1 around ∷ macro 2 (67 ∷ []) ∷ []) [] (pos 1) (9 ∷ 9 ∷ 9 ∷ [])) (0 ∷ 3 ∷ 1 ∷ 0 ∷ 0 ∷ 0 ∷ 65 ∷ 67 ∷ 66 ∷ [])
     -- 15: "macro call inside a body at depth 8"; "a negative number is 8, then 15"
-    ∷ but (expanded (chain (kx 9)) [] (pos 1) (9 ∷ 9 ∷ 9 ∷ [])) (0 ∷ 0 ∷ 8 ∷ 9 ∷ 9 ∷ 9 ∷ [])
+    ∷ but (expanded (chain (kx 9)) [] (pos 1) (9 ∷ 9 ∷ 9 ∷ [])) (0 ∷ 0 ∷ 8 ∷ 0 ∷ 0 ∷ 0 ∷ 9 ∷ 9 ∷ 9 ∷ [])
     ∷ but (expanded (chain kxNegative) [] (pos 1) (9 ∷ 9 ∷ 9 ∷ [])) (15 ∷ 0 ∷ 0 ∷ 9 ∷ 9 ∷ 9 ∷ [])
     -- 7: ".. output too short for the whole result": one that just fits is not, and refused it is unchanged
     ∷ from-one (65 ∷ 66 ∷ 67 ∷ []) (7 ∷ 0 ∷ 0 ∷ 9 ∷ 9 ∷ 9 ∷ [])
@@ -203,7 +216,23 @@ wrong-expand =
     ∷ but (expanded [] (macro 1 [] ∷ []) (pos 32768) (9 ∷ 9 ∷ 9 ∷ [])) (8 ∷ 0 ∷ 0 ∷ 9 ∷ 9 ∷ 9 ∷ [])
     -- one "that refuses all input", and one "that writes nothing"
     ∷ from-one (65 ∷ []) (7 ∷ 0 ∷ 0 ∷ 9 ∷ 9 ∷ 9 ∷ [])
-    ∷ from-one (65 ∷ []) (0 ∷ 1 ∷ 1 ∷ 9 ∷ 9 ∷ 9 ∷ [])
+    ∷ from-one (65 ∷ []) (0 ∷ 1 ∷ 1 ∷ 0 ∷ 0 ∷ 0 ∷ 9 ∷ 9 ∷ 9 ∷ [])
+    -- "a KI in a body holds from there on": behind the expansion, and in the body that called it
+    ∷ but (expanded (macro 1 kiOne ∷ []) [] (pos 1) (replicate 4 9)) (0 ∷ 4 ∷ 1 ∷ 0 ∷ 0 ∷ 0 ∷ 27 ∷ 75 ∷ 73 ∷ 49 ∷ [])
+    ∷ but (expanded (macro 1 (kx 2 ++ padKx 3) ∷ macro 2 kiOne ∷ macro 3 (67 ∷ []) ∷ []) [] (pos 1) (replicate 5 9)) (0 ∷ 4 ∷ 2 ∷ 0 ∷ 0 ∷ 1 ∷ 27 ∷ 75 ∷ 73 ∷ 49 ∷ 9 ∷ [])
+    -- "copies a body's items": a DEL is one, and is not left out
+    ∷ but (expanded-from padded (macro 1 (65 ∷ 127 ∷ 66 ∷ []) ∷ []) [] (pos 1) (9 ∷ 9 ∷ 9 ∷ [])) (0 ∷ 2 ∷ 1 ∷ 0 ∷ 0 ∷ 1 ∷ 65 ∷ 66 ∷ 9 ∷ [])
+    ∷ but (expanded (macro 1 (kiOne ++ (127 ∷ [])) ∷ []) [] (pos 1) (replicate 5 9)) (0 ∷ 4 ∷ 1 ∷ 0 ∷ 0 ∷ 1 ∷ 27 ∷ 75 ∷ 73 ∷ 49 ∷ 9 ∷ [])
+    -- "Macro bodies are read in the caller's mode": not in a fresh one, and not in that of KI 1 where none came
+    ∷ but (expanded-from padded (macro 1 (padKx 2) ∷ macro 2 (67 ∷ []) ∷ []) [] (pos 1) (9 ∷ 9 ∷ 9 ∷ [])) (0 ∷ 0 ∷ 1 ∷ 0 ∷ 0 ∷ 1 ∷ 9 ∷ 9 ∷ 9 ∷ [])
+    ∷ but (expanded (macro 1 (padKx 2) ∷ macro 2 (67 ∷ []) ∷ []) [] (pos 1) (9 ∷ 9 ∷ 9 ∷ [])) (0 ∷ 1 ∷ 2 ∷ 0 ∷ 0 ∷ 0 ∷ 67 ∷ 9 ∷ 9 ∷ [])
+    -- 17: "macro body holds a .. cut command": LT of one 127, in that mode alone
+    ∷ but (expanded-from padded (macro 1 (27 ∷ 76 ∷ 84 ∷ 49 ∷ 127 ∷ []) ∷ []) [] (pos 1) (replicate 5 9)) (0 ∷ 5 ∷ 1 ∷ 0 ∷ 0 ∷ 1 ∷ 27 ∷ 76 ∷ 84 ∷ 49 ∷ 127 ∷ [])
+    ∷ but (expanded (macro 1 (27 ∷ 76 ∷ 84 ∷ 49 ∷ 127 ∷ []) ∷ []) [] (pos 1) (replicate 5 9)) (17 ∷ 0 ∷ 0 ∷ 9 ∷ 9 ∷ 9 ∷ 9 ∷ 9 ∷ [])
+    -- what is remembered is the caller's: a point outside 0..4095 is 8, behind 12
+    ∷ but (expanded-from (from 4096 0) (macro 1 (65 ∷ []) ∷ []) [] (pos 1) (9 ∷ 9 ∷ 9 ∷ [])) (0 ∷ 1 ∷ 1 ∷ 4096 ∷ 0 ∷ 0 ∷ 65 ∷ 9 ∷ 9 ∷ [])
+    ∷ but (expanded-from (from 4096 0) [] (macro 1 [] ∷ []) (pos 1) (9 ∷ 9 ∷ 9 ∷ [])) (8 ∷ 0 ∷ 0 ∷ 9 ∷ 9 ∷ 9 ∷ [])
+    ∷ but (expanded-from (from 5 6) (macro 1 (65 ∷ []) ∷ []) [] (pos 1) (9 ∷ 9 ∷ 9 ∷ [])) (0 ∷ 1 ∷ 1 ∷ 0 ∷ 0 ∷ 0 ∷ 65 ∷ 9 ∷ 9 ∷ [])
     ∷ []
 
 -- ---- the exported calls: the number, the slots, and what is lent
@@ -227,17 +256,24 @@ wrong-ardh-look-up =
     ∷ place-slots [] five 5 (0 ∷ 1 ∷ 3 ∷ 2 ∷ [])
     ∷ []
 
-abbrev expand-slots : (volatile saved : List Entry) → List ℕ → Wrong
-expand-slots v s wrong =
-    let t : ExpansionAnswer = expandTold (encoded threeBytes v) (encoded threeBytes s) (pos 1) 3 in
-    but (t .number ∷ (countFields t ++ expandOut (encoded threeBytes v) (encoded threeBytes s) (pos 1) (9 ∷ 9 ∷ 9 ∷ []))) wrong
+abbrev expand-slots : (before : List ℕ) → (volatile saved : List Entry) → (out : List ℕ) → List ℕ → Wrong
+expand-slots before v s out wrong =
+    let t : Answer Expanded = expandTold (encoded threeBytes v) (encoded threeBytes s) (pos 1) (keptIn before) (length out) in
+    but (number t ∷ (countFields t ++ (slotsBehind before t ++ expandOut (encoded threeBytes v) (encoded threeBytes s) (pos 1) (keptIn before) out))) wrong
 
 abbrev pub wrong-ardh-expand : List Wrong
 wrong-ardh-expand =
     -- one "that invents its .. macro count"
-    expand-slots (macro 1 around ∷ macro 2 (67 ∷ []) ∷ []) [] (0 ∷ 3 ∷ 1 ∷ 65 ∷ 67 ∷ 66 ∷ [])
+    expand-slots (0 ∷ 0 ∷ 0 ∷ []) (macro 1 around ∷ macro 2 (67 ∷ []) ∷ []) [] (9 ∷ 9 ∷ 9 ∷ []) (0 ∷ 3 ∷ 1 ∷ 0 ∷ 0 ∷ 0 ∷ 65 ∷ 67 ∷ 66 ∷ [])
     -- "volatile store first"
-    ∷ expand-slots (macro 1 (65 ∷ []) ∷ []) (macro 1 (68 ∷ []) ∷ []) (0 ∷ 1 ∷ 1 ∷ 68 ∷ 9 ∷ 9 ∷ [])
+    ∷ expand-slots (0 ∷ 0 ∷ 0 ∷ []) (macro 1 (65 ∷ []) ∷ []) (macro 1 (68 ∷ []) ∷ []) (9 ∷ 9 ∷ 9 ∷ []) (0 ∷ 1 ∷ 1 ∷ 0 ∷ 0 ∷ 0 ∷ 68 ∷ 9 ∷ 9 ∷ [])
+    -- "a KI in a body holds from there on": it is handed back
+    ∷ expand-slots (0 ∷ 0 ∷ 0 ∷ []) (macro 1 kiOne ∷ []) [] (9 ∷ 9 ∷ 9 ∷ 9 ∷ []) (0 ∷ 4 ∷ 1 ∷ 0 ∷ 0 ∷ 0 ∷ 27 ∷ 75 ∷ 73 ∷ 49 ∷ [])
+    -- "Macro bodies are read in the caller's mode"
+    ∷ expand-slots (0 ∷ 0 ∷ 1 ∷ []) (macro 1 (padKx 2) ∷ macro 2 (67 ∷ []) ∷ []) [] (9 ∷ 9 ∷ 9 ∷ []) (0 ∷ 0 ∷ 1 ∷ 0 ∷ 0 ∷ 1 ∷ 9 ∷ 9 ∷ 9 ∷ [])
+    -- 8: "value out of range" for a mode that is neither 0 nor 1; refused, the slots are as they came
+    ∷ expand-slots (0 ∷ 0 ∷ 2 ∷ []) (macro 1 (65 ∷ []) ∷ []) [] (9 ∷ 9 ∷ 9 ∷ []) (0 ∷ 1 ∷ 1 ∷ 0 ∷ 0 ∷ 2 ∷ 65 ∷ 9 ∷ 9 ∷ [])
+    ∷ expand-slots (5 ∷ 6 ∷ 1 ∷ []) (macro 1 (27 ∷ []) ∷ []) [] (9 ∷ 9 ∷ 9 ∷ []) (17 ∷ 0 ∷ 0 ∷ 0 ∷ 0 ∷ 0 ∷ 9 ∷ 9 ∷ 9 ∷ [])
     ∷ []
 
 -- ---- all of them

@@ -18,7 +18,8 @@ use Rattle.numbers.specs.Counts.{countIn, countAt, writeCount}
 use Rattle.points.specs.Reading.{pointAt}
 use Rattle.points.specs.Writing.{spellPoint, writePoint}
 use Rattle.coordinates.specs.Coordinates.{pointGiven}
-use Rattle.sheet.specs.Rows.{Wrong, but, joined, truth, signs, at, from, readingOf, number-is, point-is, writingOf}
+use Rattle.coordinates.specs.Remembering.{slotsOf, keptIn}
+use Rattle.sheet.specs.Rows.{Wrong, but, joined, truth, signs, at, from, paddedFrom, padded, readingOf, number-is, point-is, kept-is, writingOf}
 
 -- ---- signs, numbers, spelling
 
@@ -64,8 +65,11 @@ wrong-low-of =
     ∷ but (lowOf 1 true ∷ []) (49 ∷ [])
     ∷ []
 
+abbrev integer-from : Remembered → List ℕ → List ℕ → Wrong
+integer-from kept s wrong = but (readingOf signs (integerAt kept s 0)) wrong
+
 abbrev integer-read : List ℕ → List ℕ → Wrong
-integer-read s wrong = but (readingOf signs (integerAt freshMemory s 0)) wrong
+integer-read s wrong = integer-from freshMemory s wrong
 
 abbrev pub wrong-read-integer : List Wrong
 wrong-read-integer =
@@ -81,6 +85,15 @@ wrong-read-integer =
     -- "Up to two high bytes 64..127, six bits each": the low byte stands behind both, and the second has its own bits
     ∷ integer-read (65 ∷ 75 ∷ 48 ∷ []) (0 ∷ 0 ∷ 27 ∷ 1 ∷ 2 ∷ [])
     ∷ integer-read (65 ∷ 75 ∷ 48 ∷ []) (0 ∷ 0 ∷ 1040 ∷ 2 ∷ 3 ∷ [])
+    -- "each plain 127 .. in a parameter, is passed over": before a high byte and before the low byte; in the other mode it is a high byte
+    ∷ integer-from padded (127 ∷ 48 ∷ []) (0 ∷ 0 ∷ 1008 ∷ 1 ∷ 2 ∷ [])
+    ∷ integer-from padded (65 ∷ 127 ∷ 48 ∷ []) (0 ∷ 0 ∷ 2032 ∷ 2 ∷ 3 ∷ [])
+    ∷ integer-read (127 ∷ 48 ∷ []) (0 ∷ 0 ∷ 0 ∷ 1 ∷ 2 ∷ [])
+    -- "ESC 63 still reads as 127 in a parameter"
+    ∷ integer-from padded (27 ∷ 63 ∷ 48 ∷ []) (0 ∷ 0 ∷ 0 ∷ 2 ∷ 3 ∷ [])
+    -- "third high byte (place: that byte)": not that of a 127 before it, and no 127 is one
+    ∷ integer-from padded (64 ∷ 127 ∷ 64 ∷ 127 ∷ 64 ∷ []) (4 ∷ 3 ∷ [])
+    ∷ integer-from padded (64 ∷ 64 ∷ 127 ∷ 48 ∷ []) (4 ∷ 2 ∷ [])
     ∷ []
 
 abbrev pub wrong-as-count : List Wrong
@@ -95,11 +108,16 @@ wrong-read-count =
     -- "A count is an integer 0..256", and is read where the reading stands
     but (readingOf number-is (countAt freshMemory (80 ∷ 49 ∷ []) 0)) (0 ∷ 257 ∷ 1 ∷ 2 ∷ [])
     ∷ but (readingOf number-is (countAt freshMemory (49 ∷ 50 ∷ []) 1)) (0 ∷ 1 ∷ 0 ∷ 1 ∷ [])
+    -- a 127 behind its low byte is none of it
+    ∷ but (readingOf number-is (countAt padded (49 ∷ 127 ∷ []) 0)) (0 ∷ 1 ∷ 0 ∷ 2 ∷ [])
     ∷ []
 
+abbrev integer-written-from : Remembered → ℤ → List ℕ → ℕ → List ℕ → Wrong
+integer-written-from kept v out start wrong =
+    but (writingOf (writeInteger kept v (length out) start) (afterWrite (writeInteger kept v (length out) start) (sent kept (spell v)) out start)) wrong
+
 abbrev integer-written : ℤ → List ℕ → ℕ → List ℕ → Wrong
-integer-written v out start wrong =
-    but (writingOf (writeInteger freshMemory v (length out) start) (afterWrite (writeInteger freshMemory v (length out) start) (sent freshMemory (spell v)) out start)) wrong
+integer-written v out start wrong = integer-written-from freshMemory v out start wrong
 
 abbrev pub wrong-write-integer : List Wrong
 wrong-write-integer =
@@ -113,6 +131,10 @@ wrong-write-integer =
     ∷ integer-written (pos 32768) (9 ∷ 9 ∷ 9 ∷ []) 0 (0 ∷ 3 ∷ 96 ∷ 64 ∷ 48 ∷ [])
     -- "Negating -32768 in 16 bits"
     ∷ integer-written (negsuc 32767) (9 ∷ 9 ∷ 9 ∷ []) 0 (0 ∷ 1 ∷ 32 ∷ 9 ∷ 9 ∷ [])
+    -- "ESC 63 still reads as 127 in a parameter, and the writer in that mode writes it so": 1023 is 127 63, and the room is for three bytes
+    ∷ integer-written-from padded (pos 1023) (9 ∷ 9 ∷ 9 ∷ []) 0 (0 ∷ 2 ∷ 127 ∷ 63 ∷ 9 ∷ [])
+    ∷ integer-written-from padded (pos 1023) (9 ∷ 9 ∷ []) 0 (0 ∷ 2 ∷ 127 ∷ 63 ∷ [])
+    ∷ integer-written (pos 1023) (9 ∷ 9 ∷ 9 ∷ []) 0 (0 ∷ 3 ∷ 27 ∷ 63 ∷ 63 ∷ [])
     ∷ []
 
 abbrev count-written : ℕ → List ℕ → ℕ → List ℕ → Wrong
@@ -132,15 +154,17 @@ wrong-write-count =
 abbrev pouring : List ℕ → List ℕ → List ℕ → Wrong
 pouring w out wrong = but (length w ∷ sets out 1 w) wrong
 
-abbrev integer-poured : ℤ → List ℕ
-integer-poured v = poured (isInteger v) (sent freshMemory (spell v))
+abbrev integer-poured : Remembered → ℤ → List ℕ
+integer-poured kept v = poured (isInteger v) (sent kept (spell v))
 
 abbrev pub wrong-pour-integer : List Wrong
 wrong-pour-integer =
     -- the bytes go where they were asked for and are counted; of 32768 there are none
-    pouring (integer-poured (pos 1)) (9 ∷ 9 ∷ []) (1 ∷ 49 ∷ 9 ∷ [])
-    ∷ pouring (integer-poured (pos 1)) (9 ∷ 9 ∷ []) (0 ∷ 9 ∷ 49 ∷ [])
-    ∷ pouring (integer-poured (pos 32768)) (9 ∷ 9 ∷ []) (3 ∷ 9 ∷ 96 ∷ [])
+    pouring (integer-poured freshMemory (pos 1)) (9 ∷ 9 ∷ []) (1 ∷ 49 ∷ 9 ∷ [])
+    ∷ pouring (integer-poured freshMemory (pos 1)) (9 ∷ 9 ∷ []) (0 ∷ 9 ∷ 49 ∷ [])
+    ∷ pouring (integer-poured freshMemory (pos 32768)) (9 ∷ 9 ∷ []) (3 ∷ 9 ∷ 96 ∷ [])
+    -- 1023, with its 127 as the writer in that mode writes it
+    ∷ pouring (integer-poured padded (pos 1023)) (9 ∷ 9 ∷ 9 ∷ 9 ∷ []) (2 ∷ 9 ∷ 127 ∷ 63 ∷ 9 ∷ [])
     ∷ []
 
 abbrev count-poured : ℕ → List ℕ
@@ -171,6 +195,10 @@ wrong-read-point =
     ∷ point-read freshMemory (112 ∷ 96 ∷ 64 ∷ []) 0 (0 ∷ 0 ∷ 4 ∷ 2 ∷ 3 ∷ [])
     -- "The others may be left out": where HiY is left out, the first byte is that which stands next
     ∷ point-read freshMemory (97 ∷ 64 ∷ []) 0 (0 ∷ 0 ∷ 0 ∷ 1 ∷ 2 ∷ [])
+    -- "each plain 127 .. in a parameter, is passed over": it is no LoY behind an Extra
+    ∷ point-read padded (121 ∷ 127 ∷ 64 ∷ []) 0 (0 ∷ 1 ∷ 126 ∷ 2 ∷ 3 ∷ [])
+    -- "ESC 63 still reads as 127 in a parameter": LoY, and not passed over
+    ∷ point-read padded (27 ∷ 63 ∷ 64 ∷ []) 0 (0 ∷ 0 ∷ 0 ∷ 2 ∷ 3 ∷ [])
     ∷ []
 
 abbrev point-written : Remembered → Point → List ℕ → ℕ → List ℕ → Wrong
@@ -190,6 +218,9 @@ wrong-write-point =
     ∷ point-written freshMemory (at 1 0) (9 ∷ 9 ∷ 9 ∷ []) 0 (0 ∷ 2 ∷ 97 ∷ 64 ∷ 9 ∷ [])
     -- "The 16 bit of Extra is .. written as 0"
     ∷ point-written freshMemory (at 1 0) (9 ∷ 9 ∷ 9 ∷ []) 0 (0 ∷ 3 ∷ 113 ∷ 96 ∷ 64 ∷ [])
+    -- "the writer in that mode writes it so": a LoY of 127, in that mode alone
+    ∷ point-written padded (at 0 124) (9 ∷ 9 ∷ 9 ∷ []) 0 (0 ∷ 2 ∷ 127 ∷ 64 ∷ 9 ∷ [])
+    ∷ point-written freshMemory (at 0 124) (9 ∷ 9 ∷ 9 ∷ []) 0 (0 ∷ 3 ∷ 27 ∷ 63 ∷ 64 ∷ [])
     ∷ []
 
 abbrev point-poured : Remembered → Point → List ℕ
@@ -200,6 +231,8 @@ wrong-pour-point =
     -- the bytes go where they were asked for, and none is counted that is left out
     pouring (point-poured freshMemory (at 4 0)) (9 ∷ 9 ∷ []) (1 ∷ 65 ∷ 9 ∷ [])
     ∷ pouring (point-poured freshMemory (at 4 0)) (9 ∷ 9 ∷ []) (5 ∷ 9 ∷ 65 ∷ [])
+    -- a LoY of 127 as the writer in that mode writes it
+    ∷ pouring (point-poured padded (at 0 124)) (9 ∷ 9 ∷ 9 ∷ 9 ∷ []) (2 ∷ 9 ∷ 127 ∷ 64 ∷ 9 ∷ [])
     ∷ []
 
 -- ---- coordinates
@@ -210,6 +243,24 @@ wrong-point-given =
     but (point-is (pointGiven (pos 4095) (pos 0))) (4096 ∷ 0 ∷ [])
     ∷ but (point-is (pointGiven (pos 4096) (pos 0))) (4095 ∷ 0 ∷ [])
     ∷ but (point-is (pointGiven (pos 1) (pos 2))) (2 ∷ 2 ∷ [])
+    ∷ []
+
+abbrev pub wrong-kept-in : List Wrong
+wrong-kept-in =
+    -- the point's x and y, in this order, and the mode as KI sets it
+    but (kept-is (keptIn (1 ∷ 2 ∷ 0 ∷ []))) (2 ∷ 1 ∷ 0 ∷ [])
+    ∷ but (kept-is (keptIn (1 ∷ 2 ∷ 1 ∷ []))) (1 ∷ 2 ∷ 0 ∷ [])
+    ∷ but (kept-is (keptIn (1 ∷ 2 ∷ 0 ∷ []))) (1 ∷ 2 ∷ 1 ∷ [])
+    -- 8: "value out of range": a mode that is neither 0 nor 1 is not taken for one of them
+    ∷ but (truth (inside (keptIn (1 ∷ 2 ∷ 2 ∷ []) .point))) (1 ∷ [])
+    ∷ []
+
+abbrev pub wrong-slots-of : List Wrong
+wrong-slots-of =
+    -- "The mode goes with the remembered point"
+    but (slotsOf (paddedFrom 1 2)) (1 ∷ 2 ∷ 0 ∷ [])
+    ∷ but (slotsOf (from 1 2)) (1 ∷ 2 ∷ 1 ∷ [])
+    ∷ but (slotsOf (from 1 2)) (2 ∷ 1 ∷ 0 ∷ [])
     ∷ []
 
 -- ---- all of them
@@ -234,4 +285,6 @@ column-of-numbers =
     ∷ wrong-write-point
     ∷ wrong-pour-point
     ∷ wrong-point-given
+    ∷ wrong-kept-in
+    ∷ wrong-slots-of
     ∷ [])
