@@ -1,4 +1,5 @@
-//! The streams that are read: valid, damaged, random. One in three is padded: it is begun in mode 1, or has KI 1 early, and has DELs everywhere.
+//! The streams that are read: valid, damaged, random. One in three is padded: it begins in mode 1, or in mode 0 with KI to come, and has DELs
+//! everywhere.
 
 use second::commands::{Command, Value};
 use second::forms::FORMS;
