@@ -36,7 +36,7 @@ use Rattle.parameters.specs.Behind.{afterValues}
 use Rattle.commands.specs.declared.Command.{Command}
 use Rattle.commands.specs.Behind.{leading, afterLetters, afterCommand}
 use Rattle.writable.specs.Writable.{isKind, isEntry, areEntries, areValues, isTail, fits, isCommand}
-use Rattle.writing.specs.Writing.{spellEntry, spellEntries, spellValues, spellTail, spellParameters, spellCommand, Poured, mostBytes}
+use Rattle.writing.specs.Writing.{spellEntry, spellEntries, spellValues, spellTail, spellParameters, spellCommand, Poured, mostWritten}
 use Rattle.writing.proofs.Sizes.{bytes-few}
 use Rattle.writing.proofs.Pouring.{poured-both}
 
@@ -237,11 +237,11 @@ fitting kept c es e h = and-right (isKind (c .first) (c .second) (c .parameters)
 pub tested : {b t v : Bool} → t ≡ b → t ≡ v → b ≡ v
 tested e h = sym e ∙ h
 
-pub all-written : (kept : Remembered) (c : Command) (es : List ℤ) (l o : List ℕ) {m : DelMode} {size most : ℕ} (room : ℕ) → fits kept (c .parameters) es ≡ true → Poured (spellCommand kept c es) 1043 l o 0 size → m ≡ kept .mode → most ≡ mostBytes m → most ≤ room → writtenOf (Next size) ≡ writeAt (spellCommand kept c es) room 0
+pub all-written : (kept : Remembered) (c : Command) (es : List ℤ) (l o : List ℕ) {m : DelMode} {size most : ℕ} (room : ℕ) → fits kept (c .parameters) es ≡ true → Poured (spellCommand kept c es) 1043 l o 0 size → m ≡ kept .mode → most ≡ mostWritten m → most ≤ room → writtenOf (Next size) ≡ writeAt (spellCommand kept c es) room 0
 unfolding writeAt roomFor writtenOf
 all-written kept c es l o {m} {size} {most} room h f em e k =
     let n : 0 + length (spellCommand kept c es) ≡ size = omega (arith, f .size) in
-    let q : most ≡ mostBytes (kept .mode) = e ∙ ap mostBytes em in
+    let q : most ≡ mostWritten (kept .mode) = e ∙ ap mostWritten em in
     rw (n, le-leb size room (omega (arith, k, q, bytes-few kept c es (command-tail kept (c .parameters) es h) f)))
 
 pub stands-written : (w : List ℕ) (l o : List ℕ) (n k r : ℕ) → Poured w k l o 0 r → o ≡ afterWrite (writtenOf (Next n)) w l 0

@@ -26,7 +26,7 @@ use Rattle.parameters.specs.Shapes.{Tailed, noList, listOf, Value, number, scal
 use Rattle.parameters.specs.Behind.{afterValue, afterValues}
 use Rattle.commands.specs.declared.Command.{Command}
 use Rattle.writable.specs.Writable.{areEntries, isTail}
-use Rattle.writing.specs.Writing.{spellEntry, spellEntries, spellValue, spellValues, spellTail, spellParameters, spellCommand, Poured, mostBytes}
+use Rattle.writing.specs.Writing.{spellEntry, spellEntries, spellValue, spellValues, spellTail, spellParameters, spellCommand, Poured, mostWritten}
 
 highs-short : (h : ℕ) → length (highsOf h) ≤ 2
 unfolding highsOf
@@ -135,19 +135,19 @@ command-short kept c es e ok =
     let m = tail-short (afterValues kept vs) (values-mode kept vs ∙ e) (tailOf (c .parameters)) es ok in
     omega (arith, n, m, few-values (c .parameters), length-append w t)
 
-pub most-data : {m : DelMode} → m ≡ Data → 792 ≡ mostBytes m
-unfolding mostBytes
+pub most-data : {m : DelMode} → m ≡ Data → 792 ≡ mostWritten m
+unfolding mostWritten
 most-data e = rw e
 
-pub most-filler : {m : DelMode} → m ≡ Filler → 1043 ≡ mostBytes m
-unfolding mostBytes
+pub most-filler : {m : DelMode} → m ≡ Filler → 1043 ≡ mostWritten m
+unfolding mostWritten
 most-filler e = rw e
 
 -- what was poured has no more bytes than the mode lets a command have
-pub bytes-few : (kept : Remembered) (c : Command) (es : List ℤ) {l o : List ℕ} {r : ℕ} → isTail (tailOf (c .parameters)) es ≡ true → Poured (spellCommand kept c es) 1043 l o 0 r → r ≤ mostBytes (kept .mode)
-unfolding mostBytes
+pub bytes-few : (kept : Remembered) (c : Command) (es : List ℤ) {l o : List ℕ} {r : ℕ} → isTail (tailOf (c .parameters)) es ≡ true → Poured (spellCommand kept c es) 1043 l o 0 r → r ≤ mostWritten (kept .mode)
+unfolding mostWritten
 bytes-few kept c es {l} {o} {r} ok f = by (kept .mode) refl
   where
-    by : (m : DelMode) → kept .mode ≡ m → r ≤ mostBytes m
+    by : (m : DelMode) → kept .mode ≡ m → r ≤ mostWritten m
     by Data e = omega (arith, f .size, command-short kept c es e ok)
     by Filler e = f .few

@@ -56,9 +56,9 @@ abbrev pub writeCommand : Remembered → Command → List ℤ → ℕ → Answer
 writeCommand kept c es room = writeIf (isCommand kept c es) (spellCommand kept c es) room 0
 
 -- no command has more bytes: where a 127 is data an entry has at most three, and where it is filler four
-unfoldable pub mostBytes : DelMode → ℕ
-mostBytes Data = 792
-mostBytes Filler = 1043
+unfoldable pub mostWritten : DelMode → ℕ
+mostWritten Data = 792
+mostWritten Filler = 1043
 
 -- the bytes w, at most most of them, stand in l from at on as far as it has room, and r says how many they are
 pub record Poured (w : List ℕ) (most : ℕ) (l o : List ℕ) (at r : ℕ) : Type 0 where

@@ -12,7 +12,7 @@ ghost use Rattle.parameters.specs.Shapes.{listOf, valuesOf, tailOf};
 ghost use Rattle.parameters.specs.Behind.{afterValues};
 ghost use Rattle.commands.specs.Behind.{afterCommand};
 ghost use Rattle.writable.specs.Writable.{isEntry, areEntries, areValues, isTail, fits};
-ghost use Rattle.writing.specs.Writing.{spellEntry, spellEntries, spellValues, spellTail, spellCommand, writeFitting, writeCommand, mostBytes, Poured};
+ghost use Rattle.writing.specs.Writing.{spellEntry, spellEntries, spellValues, spellTail, spellCommand, writeFitting, writeCommand, mostWritten, Poured};
 use commands::Command;
 use memory::DelMode;
 use memory::Point;
@@ -214,7 +214,7 @@ fn pour_command(kept: Remembered, command: Command, list: &[i32], out: &mut [u8]
 
 // What a command may need, by the mode: less where a 127 is data, so that there a shorter output is poured into at once.
 fn most_bytes(mode: DelMode) -> usize
-    ensures { λ r. ⌜ r ≡ mostBytes mode ⌝ }
+    ensures { λ r. ⌜ r ≡ mostWritten mode ⌝ }
 {
     match mode {
         DelMode::Data => 792,
