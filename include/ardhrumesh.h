@@ -101,8 +101,8 @@ uint8_t ardh_next_item(const uint8_t *bytes, size_t length, size_t start, uint16
                        int32_t values[4]);
 
 /*
- * The shortest spelling of a command from the front of `out` on, from what is remembered, which is then that behind the command. No command
- * has more than 776 bytes in mode 0, or 1,033 in mode 1.
+ * The shortest spelling of a command from the front of `out` on, from what is remembered, which is then that behind the command. 792 bytes of
+ * output in mode 0, and 1,043 in mode 1, are enough for any command.
  * values holds its fixed parameters by the kind of its letters, as ardh_next_item gives them; a coordinate outside 0..4095 is refused.
  * The whole list is the entries of a string or an array; for other commands it is not looked at.
  * *written is the number of bytes. Returns 8 for letters that are no command's, a value, remembered point or mode outside its range, or more
