@@ -35,6 +35,16 @@ use Rattle.parameters.proofs.Kept.{fixed-kept}
 use Rattle.writing.proofs.Sizes.{values-mode}
 use Rattle.laws.proofs.Shortest.{entry-good, FixedShown, part-good, fixed-good}
 
+-- ---- the mode: what is remembered behind parameters is remembered in the mode in which they were read
+
+pub part-mode : (kept : Remembered) (p : Part) (s : List ℕ) (at : ℕ) {x : Fixed} → partAt kept p s at ≡ done x → x .kept .mode ≡ kept .mode
+part-mode kept p s at {x} q =
+    let a = done-of (FixedShown kept (p ∷ []) s at) (part-good kept p s at) q in
+    ap (λ (k : Remembered). k .mode) (a .kept-is) ∙ values-mode kept (x .values)
+
+pub fixed-mode : (kept : Remembered) (ps : List Part) (s : List ℕ) (at : ℕ) {x : Fixed} → fixedAt kept ps s at ≡ done x → x .kept .mode ≡ kept .mode
+fixed-mode kept ps s at {x} q = ap (λ (k : Remembered). k .mode) (fixed-kept kept ps s at q) ∙ values-mode kept (x .values)
+
 -- ---- an answer with its places moved
 
 unfoldable pub moved : {A : Type 0} (f : ℕ → ℕ) (g : A → A) → Answer A → Answer A
@@ -198,12 +208,6 @@ module _ (f : ℕ → ℕ) (m : DelMode) (s r : List ℕ) (alike : Reads f m s r
         moved-then f (readMoved f) (runMoved f) (countAt kept s at) _ _ _ (count-moved at i)
         (λ c q. moved-then f f (runMoved f) (endsAfter (entryAt n kept s) (c .value) (c .next)) _ _ _ (ends-moved n (c .value) (c .next) (count-shown kept s at q .within)) (λ z y. refl))
 
-  -- what a part leaves is remembered in the same mode
-  part-mode : (kept : Remembered) (p : Part) (at : ℕ) {x : Fixed} → kept .mode ≡ Filler → partAt kept p s at ≡ done x → x .kept .mode ≡ Filler
-  part-mode kept p at {x} e q =
-      let a = done-of (FixedShown kept (p ∷ []) s at) (part-good kept p s at) q in
-      ap (λ (k : Remembered). k .mode) (a .kept-is) ∙ values-mode kept (x .values) ∙ e
-
   fixed-moved : (kept : Remembered) (ps : List Part) (at : ℕ) → kept .mode ≡ Filler → at ≤ length s → fixedAt (inMode kept m) ps r (f at) ≡ moved f (fixedMoved f m) (fixedAt kept ps s at)
   unfolding fixedAt moved
   fixed-moved kept [] at e i = refl
@@ -211,12 +215,9 @@ module _ (f : ℕ → ℕ) (m : DelMode) (s r : List ℕ) (alike : Reads f m s r
       moved-then f (fixedMoved f m) (fixedMoved f m) (partAt kept p s at) _ _ _ (part-moved kept e p at i)
       (λ x q.
       let a = done-of (FixedShown kept (p ∷ []) s at) (part-good kept p s at) q in
-      moved-then f (fixedMoved f m) (fixedMoved f m) (fixedAt (x .kept) ps s (x .next)) _ _ _ (fixed-moved (x .kept) ps (x .next) (part-mode kept p at e q) (a .within)) (λ y z. refl))
+      moved-then f (fixedMoved f m) (fixedMoved f m) (fixedAt (x .kept) ps s (x .next)) _ _ _ (fixed-moved (x .kept) ps (x .next) (part-mode kept p s at q ∙ e) (a .within)) (λ y z. refl))
 
   module _ (kept : Remembered) (e : kept .mode ≡ Filler) (h : Shape) (at : ℕ) (i : at ≤ length s) where
-    fixed-mode : {x : Fixed} → fixedAt kept (h .fixed) s at ≡ done x → x .kept .mode ≡ Filler
-    fixed-mode {x} q = ap (λ (k : Remembered). k .mode) (fixed-kept kept (h .fixed) s at q) ∙ values-mode kept (x .values) ∙ e
-
     fixed-within : {x : Fixed} → fixedAt kept (h .fixed) s at ≡ done x → x .next ≤ length s
     fixed-within q = done-of (FixedShown kept (h .fixed) s at) (fixed-good kept (h .fixed) s at i) q .within
 
@@ -224,7 +225,7 @@ module _ (f : ℕ → ℕ) (m : DelMode) (s r : List ℕ) (alike : Reads f m s r
     unfolding parametersAt moved
     parameters-moved =
         moved-then f (fixedMoved f m) (parsedMoved f m) (fixedAt kept (h .fixed) s at) _ _ _ (fixed-moved kept (h .fixed) at e i)
-        (λ x q. moved-then f (runMoved f) (parsedMoved f m) (tailAt (x .kept) (h .tail) s (x .next)) _ _ _ (tail-moved (x .kept) (fixed-mode q) (h .tail) (x .next) (fixed-within q)) (λ y z. refl))
+        (λ x q. moved-then f (runMoved f) (parsedMoved f m) (tailAt (x .kept) (h .tail) s (x .next)) _ _ _ (tail-moved (x .kept) (fixed-mode kept (h .fixed) s at q ∙ e) (h .tail) (x .next) (fixed-within q)) (λ y z. refl))
 
     -- and so are the entries
     Entries : Parsed → Type 0
@@ -234,7 +235,7 @@ module _ (f : ℕ → ℕ) (m : DelMode) (s r : List ℕ) (alike : Reads f m s r
     unfolding tailAt runAt allAfter
     tail-entries x q noList {y} z = let n : y .count ≡ 0 = cc in rw n
     tail-entries x q (listOf n) {y} z =
-        values-moved (x .kept) (fixed-mode q) n (y .count) (y .start) (done-of (λ (w : CountedRun). w .start ≤ length s) starts z)
+        values-moved (x .kept) (fixed-mode kept (h .fixed) s at q ∙ e) n (y .count) (y .start) (done-of (λ (w : CountedRun). w .start ≤ length s) starts z)
       where
         starts : Done (λ (w : CountedRun). w .start ≤ length s) (runAt n (x .kept) s (x .next))
         starts =

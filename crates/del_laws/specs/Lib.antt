@@ -1,2 +1,4 @@
 pub mod Padding
 pub mod Base
+pub mod BaseItems
+pub mod BaseWriting

@@ -23,18 +23,22 @@ placeWithout [] at = 0
 placeWithout (b ∷ s) zero = 0
 placeWithout (b ∷ s) (suc at) = pick (isDel b) (placeWithout s at) (suc (placeWithout s at))
 
--- a command of s, as it is read without DELs in the mode m
-abbrev pub commandWithout : DelMode → List ℕ → Meaning → Meaning
-commandWithout m s c = record {
+-- a command with another end and another memory behind it
+abbrev pub anew : Meaning → (next : ℕ) → Remembered → Meaning
+anew c next kept = record {
   first = c .first;
   second = c .second;
   values = c .values;
   tail = c .tail;
   count = c .count;
   entries = c .entries;
-  next = placeWithout s (c .next);
-  kept = inMode (c .kept) m;
+  next = next;
+  kept = kept;
 }
+
+-- a command of s, as it is read without DELs in the mode m
+abbrev pub commandWithout : DelMode → List ℕ → Meaning → Meaning
+commandWithout m s c = anew c (placeWithout s (c .next)) (inMode (c .kept) m)
 
 abbrev pub unless : Bool → Type 0 → Type 0
 unless true P = Unit {0}
