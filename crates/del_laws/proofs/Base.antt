@@ -1,6 +1,6 @@
 -- Where 127 is data nothing is passed over: parameters are read as in document 01.
 use Prim.Native.Nat.{ℕ}
-use mathlib.Core.Path.{_≡_, refl, sym, _∙_, ap}
+use mathlib.Core.Path.{_≡_, refl, _∙_, ap}
 use mathlib.Core.List.{List, [], _∷_}
 use lib.IntN.{ℤ}
 use Rattle.memory.specs.declared.DelMode.{DelMode}
@@ -15,7 +15,7 @@ use Rattle.parameters.specs.declared.Entry.{Entry}
 use Rattle.parameters.specs.declared.Entry.the-variants.{AnInteger, ACharacter}
 use Rattle.parameters.specs.Entries.{entryAt, runAt}
 use Rattle.parameters.specs.Shapes.{Tailed, noList, listOf, Part, single, real, point, Shape}
-use Rattle.parameters.specs.Looking.{twoEntriesAt, Fixed, partAt, fixedAt, tailAt, Parsed, parametersAt, entryIn, parsedEntries}
+use Rattle.parameters.specs.Looking.{twoEntriesAt, partAt, fixedAt, tailAt, Parsed, parametersAt, entryIn, parsedEntries}
 use Rattle.del_laws.specs.Base.{pointAlone, basePair, baseByte, baseHighs, baseInteger, baseKind, baseLast, baseLoY, baseUpper, baseHiY, baseFrom, basePoint, baseEntry, baseTail, basePart, baseFixed, baseParameters, baseEntries}
 use Rattle.del_laws.proofs.Moving.{part-mode, fixed-mode}
 
@@ -32,10 +32,6 @@ pub alone : {kept : Remembered} → kept .mode ≡ Data → kept ≡ pointAlone 
 alone {kept} e = ap (λ (m : DelMode). record { point = kept .point; mode = m }) e
 
 module _ (s : List ℕ) where
-  byte-so : (p : Point) (at : ℕ) → byteAt (pointAlone p) s at ≡ baseByte s at
-  unfolding byteAt foundAt pairAt pastDels baseByte basePair
-  byte-so p at = refl
-
   integer-so : (p : Point) (at : ℕ) → integerAt (pointAlone p) s at ≡ baseInteger s at
   unfolding byteAt foundAt pairAt pastDels baseByte basePair integerFrom baseHighs
   integer-so p at = refl

@@ -1,23 +1,22 @@
 -- Where 127 is data each byte is sent as itself: a command is written as in document 01.
 use Prim.Native.Nat.{ℕ}
 use mathlib.Core.Path.{_≡_, refl, _∙_, ap}
-use mathlib.Core.List.{List, [], _∷_, _++_}
+use mathlib.Core.List.{List, [], _∷_}
 use lib.IntN.{ℤ}
 use Rattle.memory.specs.declared.DelMode.the-variants.{Data}
 use Rattle.memory.specs.declared.Point.{Point}
 use Rattle.memory.specs.declared.Remembered.{Remembered}
-use Rattle.refusals.specs.Answers.{Answer}
-use Rattle.wire.specs.Sending.{sentIn, sent, writeIf}
+use Rattle.wire.specs.Sending.{sentIn, sent}
 use Rattle.parameters.specs.declared.Entry.{Entry}
 use Rattle.parameters.specs.declared.Entry.the-variants.{AnInteger, ACharacter}
 use Rattle.parameters.specs.Shapes.{Tailed, noList, listOf, Value, number, scaled, place, valuesOf, tailOf}
 use Rattle.parameters.specs.Behind.{afterValues}
 use Rattle.commands.specs.declared.Command.{Command}
-use Rattle.writable.specs.Writable.{isCommand}
-use Rattle.writing.specs.Writing.{spellEntry, spellEntries, spellValue, spellValues, spellTail, spellParameters, spellCommand, writeCommand}
+use Rattle.writable.specs.Writable.{fits, isCommand}
+use Rattle.writing.specs.Writing.{spellEntry, spellEntries, spellValues, spellTail, spellParameters, spellCommand, writeCommand}
 use Rattle.writing.proofs.Sizes.{values-mode}
 use Rattle.del_laws.specs.Base.{pointAlone}
-use Rattle.del_laws.specs.BaseWriting.{baseSpelled, baseSpelledAll, baseValue, baseValues, baseList, baseSpelling}
+use Rattle.del_laws.specs.BaseWriting.{baseSpelled, baseSpelledAll, baseValues, baseList, baseSpelling, baseWrite}
 use Rattle.del_laws.proofs.Base.{alone}
 
 entry-so : (p : Point) (n : Entry) (v : ℤ) → spellEntry n (pointAlone p) v ≡ baseSpelled n v
@@ -52,5 +51,6 @@ module _ (kept : Remembered) (e : kept .mode ≡ Data) (c : Command) (es : List 
       let back : spellTail (afterValues kept vs) t es ≡ baseList t es = ap (λ (k : Remembered). spellTail k t es) (alone (values-mode kept vs ∙ e)) ∙ list-so (afterValues kept vs .point) t es in
       rw (front, back)
 
-  pub data-written : (room : ℕ) → writeCommand kept c es room ≡ writeIf (isCommand kept c es) (baseSpelling (kept .point) c es) room 0
+  pub data-written : (room : ℕ) → writeCommand kept c es room ≡ baseWrite (kept .point) c es room
+  unfolding isCommand fits
   data-written room = rw data-spelled

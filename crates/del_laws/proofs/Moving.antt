@@ -1,11 +1,10 @@
 -- Reading with the places moved: where every byte of one list is read in another, at places moved by f, so is everything that is read byte by byte. What is
 -- remembered on the other side is that of this one in the mode m.
-use Prim.Native.Nat.{ℕ, zero, suc, _+_, _*_, _%_, _≤_, _<_}
+use Prim.Native.Nat.{ℕ, zero, suc, _+_, _*_, _%_, _≤_}
 use mathlib.Core.Path.{_≡_, refl, sym, _∙_, ap}
 use mathlib.Core.Bool.{Bool, true, false}
-use mathlib.Core.List.{List, [], _∷_, _++_}
-use native.Mathlib.Omega.{arith}
-use lib.Dec.{ltb, leb, eqb}
+use mathlib.Core.List.{List, [], _∷_}
+use lib.Dec.{ltb, leb}
 use lib.ListN.{length}
 use lib.IntN.{ℤ, natAbs}
 use Rattle.memory.specs.declared.DelMode.{DelMode}
@@ -21,14 +20,14 @@ use Rattle.signs.specs.Signs.{isNegative, mostMagnitude}
 use Rattle.ranges.specs.Ranges.{mostEntries}
 use Rattle.numbers.specs.Integers.{integerFrom, integerAt, inRange}
 use Rattle.numbers.specs.Counts.{countIn, countAt}
-use Rattle.numbers.proofs.Shortest.{integer-shown, count-shown}
+use Rattle.numbers.proofs.Shortest.{count-shown}
 use Rattle.points.specs.declared.PointBytes.{PointBytes}
 use Rattle.points.specs.Layout.{bytesOf}
 use Rattle.points.specs.Reading.{byKind, notAllowed, withHiY, withExtra, withLoY, withHiX, endsAt, loX, lastAt, afterLoY, afterUpper, afterHiY, pointFrom, pointAt}
 use Rattle.parameters.specs.declared.Entry.{Entry}
 use Rattle.parameters.specs.declared.Entry.the-variants.{AnInteger, ACharacter}
 use Rattle.parameters.specs.Entries.{entryAt, entryValues, CountedRun, runAt}
-use Rattle.parameters.specs.Shapes.{Tailed, noList, listOf, Part, single, real, point, Shape}
+use Rattle.parameters.specs.Shapes.{Tailed, noList, listOf, Part, single, real, point, Shape, Value}
 use Rattle.parameters.specs.Behind.{afterValues}
 use Rattle.parameters.specs.Looking.{TwoEntries, twoEntriesAt, Fixed, partAt, fixedAt, tailAt, Parsed, parametersAt, entryIn, parsedEntries}
 use Rattle.parameters.proofs.Kept.{fixed-kept}
@@ -37,13 +36,14 @@ use Rattle.laws.proofs.Shortest.{entry-good, FixedShown, part-good, fixed-good}
 
 -- ---- the mode: what is remembered behind parameters is remembered in the mode in which they were read
 
+pub kept-mode : (kept : Remembered) {behind : Remembered} (vs : List Value) → behind ≡ afterValues kept vs → behind .mode ≡ kept .mode
+kept-mode kept vs q = ap (λ (k : Remembered). k .mode) q ∙ values-mode kept vs
+
 pub part-mode : (kept : Remembered) (p : Part) (s : List ℕ) (at : ℕ) {x : Fixed} → partAt kept p s at ≡ done x → x .kept .mode ≡ kept .mode
-part-mode kept p s at {x} q =
-    let a = done-of (FixedShown kept (p ∷ []) s at) (part-good kept p s at) q in
-    ap (λ (k : Remembered). k .mode) (a .kept-is) ∙ values-mode kept (x .values)
+part-mode kept p s at {x} q = kept-mode kept (x .values) (done-of (FixedShown kept (p ∷ []) s at) (part-good kept p s at) q .kept-is)
 
 pub fixed-mode : (kept : Remembered) (ps : List Part) (s : List ℕ) (at : ℕ) {x : Fixed} → fixedAt kept ps s at ≡ done x → x .kept .mode ≡ kept .mode
-fixed-mode kept ps s at {x} q = ap (λ (k : Remembered). k .mode) (fixed-kept kept ps s at q) ∙ values-mode kept (x .values)
+fixed-mode kept ps s at {x} q = kept-mode kept (x .values) (fixed-kept kept ps s at q)
 
 -- ---- an answer with its places moved
 

@@ -20,7 +20,7 @@ use Rattle.points.specs.Reading.{notAllowed, withHiY, withExtra, withLoY, withH
 use Rattle.parameters.specs.declared.Entry.{Entry}
 use Rattle.parameters.specs.declared.Entry.the-variants.{AnInteger, ACharacter}
 use Rattle.parameters.specs.Entries.{asEntry, CountedRun}
-use Rattle.parameters.specs.Shapes.{Tailed, noList, listOf, Part, single, real, point, Shape, Value, number, scaled, place}
+use Rattle.parameters.specs.Shapes.{Tailed, noList, listOf, Part, single, real, point, Shape, number, scaled, place}
 use Rattle.parameters.specs.Looking.{Fixed, Parsed, entryIn}
 
 -- the remembered point, where 127 is data

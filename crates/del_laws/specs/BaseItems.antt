@@ -1,12 +1,13 @@
 -- Document 01's own items. What K2 changes in the old reading is the mode behind KI 1, and nothing else: proofs/BaseItems.antt.
-use Prim.Native.Nat.{ℕ, _+_}
-use mathlib.Core.Bool.{Bool, false, _&&_}
-use mathlib.Core.List.{List}
+use Prim.Native.Nat.{ℕ, zero, suc, _+_}
+use mathlib.Core.Bool.{Bool, true, false, not, _&&_}
+use mathlib.Core.List.{List, [], _∷_}
 use lib.ListN.{length, getD}
 use lib.Dec.{ltb, leb, eqb}
 use lib.IntN.{ℤ, pos, negsuc}
 use Rattle.memory.specs.declared.DelMode.the-variants.{Filler}
 use Rattle.memory.specs.declared.Point.{Point}
+use Rattle.memory.specs.declared.Remembered.{Remembered}
 use Rattle.memory.specs.Memory.{inside, inMode}
 use Rattle.refusals.specs.Answers.{Answer, done, refused, then, pick}
 use Rattle.table.specs.Table.{kindOf, begins}
@@ -14,7 +15,7 @@ use Rattle.parameters.specs.Shapes.{shapeOf}
 use Rattle.parameters.specs.Looking.{Parsed}
 use Rattle.commands.specs.Behind.{leading, isIgnoreDeletes}
 use Rattle.commands.specs.Reading.{letterHere, Letters, completed, Meaning}
-use Rattle.stream.specs.Items.{Itemed, nothing, text, del, command, refusedCommand, refusedCall, asItem}
+use Rattle.stream.specs.Items.{Itemed, nothing, text, del, command, refusedCommand, refusedCall, asItem, itemAt, toldItem, nextStart, nextKept}
 use Rattle.del_laws.specs.Padding.{anew}
 use Rattle.del_laws.specs.Base.{pointAlone, baseParameters, baseEntries}
 
@@ -72,10 +73,32 @@ isIgnoreDeletesOne c = isIgnoreDeletes (c .first) (c .second) && isOne (leading 
 abbrev pub sinceK2 : Meaning → Meaning
 sinceK2 c = pick (isIgnoreDeletesOne c) (anew c (c .next) (inMode (c .kept) Filler)) c
 
+-- what f makes of a command, and none for any other item
+abbrev pub ofCommand : {A : Type 0} → (none : A) → (f : Meaning → A) → Itemed Meaning → A
+ofCommand none f nothing = none
+ofCommand none f (text b n) = none
+ofCommand none f (del n) = none
+ofCommand none f (command c) = f c
+ofCommand none f (refusedCommand e p n k) = none
+ofCommand none f (refusedCall e p) = none
+
 abbrev pub itemSinceK2 : Itemed Meaning → Itemed Meaning
-itemSinceK2 nothing = nothing
-itemSinceK2 (text b n) = text b n
-itemSinceK2 (del n) = del n
-itemSinceK2 (command c) = command (sinceK2 c)
-itemSinceK2 (refusedCommand e p n k) = refusedCommand e p n k
-itemSinceK2 (refusedCall e p) = refusedCall e p
+itemSinceK2 i = ofCommand i (λ c. command (sinceK2 c)) i
+
+-- ---- a stream
+
+-- k items, each from where the one before it ends and with what is remembered there
+unfoldable pub itemsBy : (Remembered → ℕ → Itemed Meaning) → ℕ → Remembered → ℕ → List (Itemed Meaning)
+itemsBy item zero kept start = []
+itemsBy item (suc k) kept start =
+    item kept start ∷ itemsBy item k (nextKept kept (toldItem (item kept start))) (nextStart start (toldItem (item kept start)))
+
+abbrev pub itemsOf : List ℕ → (room k : ℕ) → Remembered → ℕ → List (Itemed Meaning)
+itemsOf s room k kept start = itemsBy (λ now at. itemAt now s at room) k kept start
+
+abbrev pub baseItems : List ℕ → (room k : ℕ) → Point → ℕ → List (Itemed Meaning)
+baseItems s room k p start = itemsBy (λ now at. baseItem (now .point) s at room) k (pointAlone p) start
+
+-- an item behind which 127 is data as before
+abbrev pub noIgnoreDeletesOne : Itemed Meaning → Bool
+noIgnoreDeletesOne i = ofCommand true (λ c. not (isIgnoreDeletesOne c)) i

@@ -4,6 +4,8 @@ use mathlib.Core.List.{List, [], _∷_, _++_}
 use lib.ListN.{length}
 use lib.IntN.{ℤ, pos, natAbs}
 use Rattle.memory.specs.declared.Point.{Point}
+use Rattle.refusals.specs.Answers.{Answer}
+use Rattle.wire.specs.Sending.{writeIf}
 use Rattle.numbers.specs.Integers.{spell}
 use Rattle.points.specs.Writing.{spellPoint}
 use Rattle.parameters.specs.declared.Entry.{Entry}
@@ -11,6 +13,7 @@ use Rattle.parameters.specs.declared.Entry.the-variants.{AnInteger, ACharacter}
 use Rattle.parameters.specs.Shapes.{Tailed, noList, listOf, Value, number, scaled, place, valuesOf, tailOf}
 use Rattle.parameters.specs.Behind.{afterValue}
 use Rattle.commands.specs.declared.Command.{Command}
+use Rattle.writable.specs.Writable.{isCommand}
 use Rattle.del_laws.specs.Base.{pointAlone}
 
 abbrev pub baseSpelled : Entry → ℤ → List ℕ
@@ -37,3 +40,6 @@ baseList (listOf e) es = spell (pos (length es)) ++ baseSpelledAll e es
 unfoldable pub baseSpelling : Point → Command → List ℤ → List ℕ
 baseSpelling p c es =
     (27 ∷ c .first ∷ c .second ∷ []) ++ (baseValues p (valuesOf (c .parameters)) ++ baseList (tailOf (c .parameters)) es)
+
+abbrev pub baseWrite : Point → Command → List ℤ → ℕ → Answer ℕ
+baseWrite p c es room = writeIf (isCommand (pointAlone p) c es) (baseSpelling p c es) room 0
