@@ -150,15 +150,15 @@ module _ (kept : Remembered) (e : kept .mode ≡ Data) (s : List ℕ) where
 abbrev baseBy : List ℕ → (room k : ℕ) → Remembered → ℕ → List (Itemed Meaning)
 baseBy s room k kept start = itemsBy (λ now at. baseItem (now .point) s at room) k kept start
 
+not-picked : {A : Type 0} (t : Bool) (x y : A) → not t ≡ true → pick t x y ≡ y
+not-picked true x y h = absurd (bool-apart h)
+not-picked false x y h = refl
+
 since-same : (i : Itemed Meaning) → noIgnoreDeletesOne i ≡ true → itemSinceK2 i ≡ i
 since-same nothing h = refl
 since-same (text b n) h = refl
 since-same (del n) h = refl
-since-same (command c) h = by (isIgnoreDeletesOne c) h
-  where
-    by : (t : Bool) → not t ≡ true → command (pick t (anew c (c .next) (inMode (c .kept) Filler)) c) ≡ command c
-    by true g = absurd (bool-apart g)
-    by false g = refl
+since-same (command c) h = ap command (not-picked (isIgnoreDeletesOne c) _ c h)
 since-same (refusedCommand x p n k) h = refl
 since-same (refusedCall x p) h = refl
 
