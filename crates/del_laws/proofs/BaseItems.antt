@@ -24,7 +24,7 @@ use Rattle.commands.specs.Reading.{secondAt, headAt, Letters, Meaning, meaning,
 use Rattle.stream.specs.Items.{Itemed, nothing, text, del, command, refusedCommand, refusedCall, passedFrom, isFiller, byteItem, asItem, commandItem, itemAt, toldItem, nextStart, nextKept}
 use Rattle.del_laws.specs.Padding.{anew}
 use Rattle.del_laws.specs.Base.{pointAlone, baseParameters}
-use Rattle.del_laws.specs.BaseItems.{baseHead, baseMeaning, baseBody, baseCommand, baseItem, isOne, isIgnoreDeletesOne, sinceK2, itemSinceK2, itemsBy, itemsOf, baseItems, noIgnoreDeletesOne}
+use Rattle.del_laws.specs.BaseItems.{baseHead, baseMeaning, baseBody, baseCommand, baseItem, isOne, isIgnoreDeletesOne, sinceK2, itemSinceK2, itemsBy, itemsOf, baseAt, baseItems, noIgnoreDeletesOne}
 use Rattle.del_laws.proofs.Moving.{kept-mode}
 use Rattle.del_laws.proofs.Base.{then-same, then-then, alone, parameters-so, entries-so}
 
@@ -147,9 +147,6 @@ module _ (kept : Remembered) (e : kept .mode ≡ Data) (s : List ℕ) where
 
 -- ---- a stream
 
-abbrev baseBy : List ℕ → (room k : ℕ) → Remembered → ℕ → List (Itemed Meaning)
-baseBy s room k kept start = itemsBy (λ now at. baseItem (now .point) s at room) k kept start
-
 not-picked : {A : Type 0} (t : Bool) (x y : A) → not t ≡ true → pick t x y ≡ y
 not-picked true x y h = absurd (bool-apart h)
 not-picked false x y h = refl
@@ -162,7 +159,7 @@ since-same (command c) h = ap command (not-picked (isIgnoreDeletesOne c) _ c h)
 since-same (refusedCommand x p n k) h = refl
 since-same (refusedCall x p) h = refl
 
-stream-so : (s : List ℕ) (room k : ℕ) (kept : Remembered) (start : ℕ) → kept .mode ≡ Data → every noIgnoreDeletesOne (baseBy s room k kept start) ≡ true → itemsOf s room k kept start ≡ baseBy s room k kept start
+stream-so : (s : List ℕ) (room k : ℕ) (kept : Remembered) (start : ℕ) → kept .mode ≡ Data → every noIgnoreDeletesOne (itemsBy (baseAt s room) k kept start) ≡ true → itemsOf s room k kept start ≡ itemsBy (baseAt s room) k kept start
 unfolding itemsBy every
 stream-so s room zero kept start e h = refl
 stream-so s room (suc k) kept start e h =

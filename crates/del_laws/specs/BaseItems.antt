@@ -96,8 +96,12 @@ itemsBy item (suc k) kept start =
 abbrev pub itemsOf : List ℕ → (room k : ℕ) → Remembered → ℕ → List (Itemed Meaning)
 itemsOf s room k kept start = itemsBy (λ now at. itemAt now s at room) k kept start
 
+-- document 01's, from a point
+abbrev pub baseAt : List ℕ → (room : ℕ) → Remembered → ℕ → Itemed Meaning
+baseAt s room kept start = baseItem (kept .point) s start room
+
 abbrev pub baseItems : List ℕ → (room k : ℕ) → Point → ℕ → List (Itemed Meaning)
-baseItems s room k p start = itemsBy (λ now at. baseItem (now .point) s at room) k (pointAlone p) start
+baseItems s room k p start = itemsBy (baseAt s room) k (pointAlone p) start
 
 -- an item behind which 127 is data as before
 abbrev pub noIgnoreDeletesOne : Itemed Meaning → Bool
