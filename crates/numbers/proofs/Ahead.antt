@@ -1,23 +1,22 @@
--- An integer among three bytes that are taken as they stand: none, one or two high bytes, then the low byte.
-use Prim.Native.Nat.{ℕ, zero, suc, _+_, _*_, _/_, _%_, _≤_, _<_}
-use mathlib.Core.Path.{_≡_, refl, sym, _∙_, ap}
-use mathlib.Core.Bool.{Bool, true, false}
+-- An integer that ends among three bytes: none, one or two high bytes, then the low byte, each taken as it stands.
+use Prim.Native.Nat.{ℕ, zero, suc, _+_, _-_, _*_, _/_, _%_, _≤_, _<_}
+use mathlib.Core.Path.{_≡_, refl, sym, _∙_, ap, subst}
+use mathlib.Core.Bool.{Bool, true, false, _&&_}
 use mathlib.Core.List.{List}
 use native.Mathlib.Nat.{add-zero}
 use native.Mathlib.Omega.{arith}
-use borrow.Author.Tests.{lt-ltb, le-ltb, ltb-true, ltb-false}
-use lib.Dec.{ltb}
+use borrow.Author.Tests.{lt-ltb, le-ltb, lt-leb, le-leb, ltb-true, ltb-false, leb-true}
+use lib.Dec.{leb, ltb}
 use lib.IntN.{ℤ}
 use lib.ListN.{length, getD}
 use Rattle.memory.specs.declared.Remembered.{Remembered}
-use Rattle.refusals.specs.declared.Refusal.the-variants.{IntegerOutside}
-use Rattle.refusals.specs.Answers.{Answer, Read, done, refused}
-use Rattle.wire.specs.Taking.{byteAt, threeAhead}
-use Rattle.wire.proofs.Feeds.{room-ahead, first-ahead, second-ahead, third-ahead, itself-range, itself-taken}
-use Rattle.numbers.specs.declared.IntegerRead.the-variants.{Refused}
-use Rattle.numbers.specs.Integers.{integerOf, integerFrom, integerAt, lowByte}
-use Rattle.numbers.specs.Three.{highsBefore, highValue}
-use Rattle.numbers.proofs.Reading.{low-byte, high-byte, third-high}
+use Rattle.refusals.specs.Answers.{Answer, Read, done}
+use Rattle.refusals.proofs.Cases.{and-left, and-right}
+use Rattle.wire.specs.Taking.{byteAt, isItself}
+use Rattle.wire.proofs.Feeds.{itself-taken}
+use Rattle.numbers.specs.Integers.{integerFrom, integerAt, lowByte}
+use Rattle.numbers.specs.Three.{highsBefore, highValue, endsAhead}
+use Rattle.numbers.proofs.Reading.{low-byte, high-byte}
 
 -- ---- the sums, by what they stand for
 
@@ -99,67 +98,142 @@ module _ (a b : ℕ) where
       (λ l m. omega (arith, eh, one-value l m))
       (λ l m. omega (arith, eh, two-value l m))
 
+-- ---- whether it ends among the three
+
+module _ (s : List ℕ) (at : ℕ) where
+  abbrev one : ℕ
+  one = getD s at 0
+
+  abbrev two : ℕ
+  two = getD s (at + 1) 0
+
+  abbrev low : ℕ
+  low = getD s (at + highsBefore one two) 0
+
+  pub ends-few : length s - at < 3 → false ≡ endsAhead s at
+  unfolding endsAhead
+  ends-few h = rw (lt-leb (at + 3) (length s) (omega arith))
+
+  pub ends-none : length s ≤ at → false ≡ endsAhead s at
+  ends-none h = ends-few (omega arith)
+
+  module _ (h : 3 ≤ length s - at) where
+    room : leb (at + 3) (length s) ≡ true
+    room = le-leb (at + 3) (length s) (omega arith)
+
+    pub ends-first : 127 ≤ one → false ≡ endsAhead s at
+    unfolding endsAhead
+    ends-first l = rw (room, le-ltb one 127 l)
+
+    module _ (l : one < 127) where
+      pub ends-second : 127 ≤ two → false ≡ endsAhead s at
+      unfolding endsAhead
+      ends-second m = rw (room, lt-ltb one 127 l, le-ltb two 127 m)
+
+      module _ (m : two < 127) {n : ℕ} (en : n ≡ highsBefore one two) where
+        pub ends-control : getD s (at + n) 0 < 32 → false ≡ endsAhead s at
+        unfolding endsAhead
+        ends-control c = rw (room, lt-ltb one 127 l, lt-ltb two 127 m, lt-leb 32 low (rw en at c))
+
+        pub ends-so : 32 ≤ getD s (at + n) 0 → ltb (getD s (at + n) 0) 64 ≡ endsAhead s at
+        unfolding endsAhead
+        ends-so c = rw (room, lt-ltb one 127 l, lt-ltb two 127 m, le-leb 32 low (rw en at c), en)
+
+  -- what it says
+  module _ (e : endsAhead s at ≡ true) where
+    abbrev lows : Bool
+    lows = leb 32 low && ltb low 64
+
+    pub room-ahead : at + 3 ≤ length s
+    unfolding endsAhead
+    room-ahead = leb-true (at + 3) (length s) (and-left (leb (at + 3) (length s)) (ltb one 127 && (ltb two 127 && lows)) e)
+
+    bytes : ltb one 127 && (ltb two 127 && lows) ≡ true
+    unfolding endsAhead
+    bytes = and-right (leb (at + 3) (length s)) (ltb one 127 && (ltb two 127 && lows)) e
+
+    behind-first : ltb two 127 && lows ≡ true
+    behind-first = and-right (ltb one 127) (ltb two 127 && lows) bytes
+
+    first-under : one < 127
+    first-under = ltb-true one 127 (and-left (ltb one 127) (ltb two 127 && lows) bytes)
+
+    second-under : two < 127
+    second-under = ltb-true two 127 (and-left (ltb two 127) lows behind-first)
+
+    low-range : (32 ≤ low) × (low < 64)
+    low-range =
+        let r = and-right (ltb two 127) lows behind-first in
+        (leb-true 32 low (and-left (leb 32 low) (ltb low 64) r), ltb-true low 64 (and-right (leb 32 low) (ltb low 64) r))
+
 -- ---- the integer
 
-module _ (kept : Remembered) (s : List ℕ) (at : ℕ) (e : threeAhead s at ≡ true) where
-  first-low : getD s at 0 < 64 → integerAt kept s at ≡ lowByte 0 (getD s at 0) at (at + 1)
-  first-low l = low-byte kept s at (itself-taken kept s at (omega (arith, room-ahead s at e)) (first-ahead s at e)) 2 0 l
+itself : (b : ℕ) → 32 ≤ b → b < 127 → isItself b ≡ true
+unfolding isItself
+itself b l h = rw (le-leb 32 b l, lt-ltb b 127 h)
 
-  first-high : 64 ≤ getD s at 0 → integerAt kept s at ≡ integerFrom kept 1 (getD s at 0 % 64) s (at + 1)
-  first-high l =
-      high-byte kept s at (itself-taken kept s at (omega (arith, room-ahead s at e)) (first-ahead s at e)) 1 0 l
-      ∙ ap (λ (h : ℕ). integerFrom kept 1 h s (at + 1)) (omega arith)
+module _ (kept : Remembered) (s : List ℕ) (at : ℕ) (e : endsAhead s at ≡ true) where
+  abbrev a : ℕ
+  a = getD s at 0
 
-  second-low : 64 ≤ getD s at 0 → getD s (at + 1) 0 < 64 → integerAt kept s at ≡ lowByte (getD s at 0 % 64) (getD s (at + 1) 0) (at + 1) (at + 1 + 1)
-  second-low l m =
-      first-high l
-      ∙ low-byte kept s (at + 1) (itself-taken kept s (at + 1) (omega (arith, room-ahead s at e)) (second-ahead s at e)) 1 (getD s at 0 % 64) m
+  abbrev b : ℕ
+  b = getD s (at + 1) 0
 
-  second-high : 64 ≤ getD s at 0 → 64 ≤ getD s (at + 1) 0 → integerAt kept s at ≡ integerFrom kept 0 (getD s at 0 % 64 * 64 + getD s (at + 1) 0 % 64) s (at + 2)
+  -- the bytes up to the low byte are taken as they stand
+  at-highs : {n : ℕ} → highsBefore a b ≡ n → (32 ≤ getD s (at + n) 0) × (getD s (at + n) 0 < 64)
+  at-highs q = subst (λ (n : ℕ). (32 ≤ getD s (at + n) 0) × (getD s (at + n) 0 < 64)) q (low-range s at e)
+
+  first : byteAt kept s at ≡ done (record { value = a; place = at; next = at + 1 })
+  first =
+      itself-taken kept s at (omega (arith, room-ahead s at e))
+      (by-highs a b
+      (λ l. itself a (subst (λ (k : ℕ). 32 ≤ getD s k 0) (add-zero at) (at-highs {n = 0} (no-highs a b l) .0)) (first-under s at e))
+      (λ l m. itself a (omega arith) (first-under s at e))
+      (λ l m. itself a (omega arith) (first-under s at e)))
+
+  second : 64 ≤ a → byteAt kept s (at + 1) ≡ done (record { value = b; place = at + 1; next = at + 1 + 1 })
+  second l =
+      itself-taken kept s (at + 1) (omega (arith, room-ahead s at e))
+      (by-highs a b
+      (λ k. absurd (omega arith))
+      (λ k m. itself b (at-highs (one-before a b k m) .0) (second-under s at e))
+      (λ k m. itself b (omega arith) (second-under s at e)))
+
+  third : 64 ≤ a → 64 ≤ b → byteAt kept s (at + 2) ≡ done (record { value = getD s (at + 2) 0; place = at + 2; next = at + 2 + 1 })
+  third l m =
+      let r = at-highs (two-before a b l m) in
+      itself-taken kept s (at + 2) (omega (arith, room-ahead s at e)) (itself (getD s (at + 2) 0) (r .0) (omega (arith, r .1)))
+
+  first-high : 64 ≤ a → integerAt kept s at ≡ integerFrom kept 1 (a % 64) s (at + 1)
+  first-high l = high-byte kept s at first 1 0 l ∙ ap (λ (h : ℕ). integerFrom kept 1 h s (at + 1)) (omega arith)
+
+  second-high : 64 ≤ a → 64 ≤ b → integerAt kept s at ≡ integerFrom kept 0 (a % 64 * 64 + b % 64) s (at + 2)
   second-high l m =
       first-high l
-      ∙ high-byte kept s (at + 1) (itself-taken kept s (at + 1) (omega (arith, room-ahead s at e)) (second-ahead s at e)) 0 (getD s at 0 % 64) m
-      ∙ ap (λ (k : ℕ). integerFrom kept 0 (getD s at 0 % 64 * 64 + getD s (at + 1) 0 % 64) s k) (omega arith)
-
-  third : byteAt kept s (at + 2) ≡ done (record { value = getD s (at + 2) 0; place = at + 2; next = at + 2 + 1 })
-  third = itself-taken kept s (at + 2) (omega (arith, room-ahead s at e)) (third-ahead s at e)
+      ∙ high-byte kept s (at + 1) (second l) 0 (a % 64) m
+      ∙ ap (λ (k : ℕ). integerFrom kept 0 (a % 64 * 64 + b % 64) s k) (omega arith)
 
   abbrev highs : ℕ
-  highs = highsBefore (getD s at 0) (getD s (at + 1) 0)
+  highs = highsBefore a b
 
-  pub three-low : getD s (at + highs) 0 < 64 → integerAt kept s at ≡ lowByte (highValue (getD s at 0) (getD s (at + 1) 0)) (getD s (at + highs) 0) (at + highs) (at + highs + 1)
-  three-low h =
-      by-highs (getD s at 0) (getD s (at + 1) 0)
-      (λ l. rw (no-highs (getD s at 0) (getD s (at + 1) 0) l, no-value (getD s at 0) (getD s (at + 1) 0) l, add-zero at) (first-low l))
-      (λ l m. rw (one-before (getD s at 0) (getD s (at + 1) 0) l m, one-value (getD s at 0) (getD s (at + 1) 0) l m) (second-low l m))
+  pub three-low : integerAt kept s at ≡ lowByte (highValue a b) (getD s (at + highs) 0) (at + highs) (at + highs + 1)
+  three-low =
+      by-highs a b
+      (λ l. rw (no-highs a b l, no-value a b l, add-zero at) (low-byte kept s at first 2 0 l))
+      (λ l m. rw (one-before a b l m, one-value a b l m) (first-high l ∙ low-byte kept s (at + 1) (second l) 1 (a % 64) m))
       (λ l m.
-      let n = two-before (getD s at 0) (getD s (at + 1) 0) l m in
-      rw (n, two-value (getD s at 0) (getD s (at + 1) 0) l m)
-      (second-high l m ∙ low-byte kept s (at + 2) third 0 (getD s at 0 % 64 * 64 + getD s (at + 1) 0 % 64) (rw n at h)))
-
-  pub three-high : 64 ≤ getD s (at + highs) 0 → integerAt kept s at ≡ refused 4 (at + highs)
-  three-high h =
-      by-highs (getD s at 0) (getD s (at + 1) 0)
-      (λ l. absurd (omega (arith, l, (rw (no-highs (getD s at 0) (getD s (at + 1) 0) l, add-zero at) at h))))
-      (λ l m. absurd (omega (arith, m, (rw (one-before (getD s at 0) (getD s (at + 1) 0) l m) at h))))
-      (λ l m.
-      let n = two-before (getD s at 0) (getD s (at + 1) 0) l m in
-      rw n
-      (second-high l m ∙ third-high kept s (at + 2) third (getD s at 0 % 64 * 64 + getD s (at + 1) 0 % 64) (rw n at h)))
+      let n = two-before a b l m in
+      rw (n, two-value a b l m) (second-high l m ∙ low-byte kept s (at + 2) (third l m) 0 (a % 64 * 64 + b % 64) (at-highs n .1)))
 
   -- as the code has it: what its parts gave, and what stands for the rest
   module _ {n : ℕ} (en : n ≡ highs) where
     pub place-ahead : at + n < length s
-    place-ahead = omega (arith, room-ahead s at e, few-highs (getD s at 0) (getD s (at + 1) 0) en)
+    place-ahead = omega (arith, room-ahead s at e, few-highs a b en)
 
-    pub low-ahead : {h : ℕ} {q : Answer (Read ℤ)} → getD s (at + n) 0 < 64 → h ≡ highValue (getD s at 0) (getD s (at + 1) 0) → q ≡ lowByte h (getD s (at + n) 0) (at + n) (at + n + 1) → q ≡ integerAt kept s at
-    low-ahead l eh j = (rw (eh, en) at j) ∙ sym (three-low (rw en at l))
+    pub low-ahead : {h : ℕ} {q : Answer (Read ℤ)} → h ≡ highValue a b → q ≡ lowByte h (getD s (at + n) 0) (at + n) (at + n + 1) → q ≡ integerAt kept s at
+    low-ahead eh j = (rw (eh, en) at j) ∙ sym three-low
 
-    pub high-ahead : 64 ≤ getD s (at + n) 0 → integerOf (Refused IntegerOutside (at + n)) ≡ integerAt kept s at
-    unfolding integerOf
-    high-ahead l = rw en (sym (three-high (rw en at l)))
-
-module _ (s : List ℕ) (at : ℕ) (e : threeAhead s at ≡ true) where
+module _ (s : List ℕ) (at : ℕ) (e : endsAhead s at ≡ true) where
   pub first-place : at < length s
   first-place = omega (arith, room-ahead s at e)
 
@@ -167,12 +241,11 @@ module _ (s : List ℕ) (at : ℕ) (e : threeAhead s at ≡ true) where
   second-place = omega (arith, room-ahead s at e)
 
   pub bytes-ahead : (getD s at 0 < 128) × (getD s (at + 1) 0 < 128)
-  bytes-ahead =
-      let a = itself-range (getD s at 0) (first-ahead s at e) in
-      let b = itself-range (getD s (at + 1) 0) (second-ahead s at e) in
-      (omega (arith, a .1), omega (arith, b .1))
+  bytes-ahead = (omega (arith, first-under s at e), omega (arith, second-under s at e))
 
-pub ahead-told : (s : List ℕ) (at : ℕ) {b : Bool} → b ≡ threeAhead s at → b ≡ true → threeAhead s at ≡ true
+pub ahead-told : (s : List ℕ) (at : ℕ) {b : Bool} → b ≡ endsAhead s at → b ≡ true → endsAhead s at ≡ true
 ahead-told s at e t = sym e ∙ t
 
-pub ruleset aheads = (first-place, second-place, place-ahead, bytes-ahead, value-small, low-ahead, high-ahead)
+pub ruleset endings = (ends-few, ends-none, ends-first, ends-second, ends-control, ends-so)
+
+pub ruleset aheads = (first-place, second-place, place-ahead, bytes-ahead, value-small, low-ahead)

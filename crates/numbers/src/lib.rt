@@ -2,9 +2,8 @@
 ghost use mathlib.Core.Path.{_≡_};
 ghost use mathlib.Core.Bool.{true};
 ghost use Prim.Native.Nat.{_<_, _≤_, _*_};
-ghost use Rattle.wire.specs.Taking.{threeAhead};
 ghost use Rattle.numbers.specs.Integers.{lowByte, integerFrom, integerAt, integerOf};
-ghost use Rattle.numbers.specs.Three.{highsBefore, highValue};
+ghost use Rattle.numbers.specs.Three.{highsBefore, highValue, endsAhead};
 ghost use Rattle.numbers.specs.Counts.{countIn, countAt, countOf};
 use memory::Remembered;
 use ranges::MOST_ENTRIES;
@@ -134,26 +133,51 @@ fn high_value(a: u8, b: u8) -> u16
     high + only_if(two, 63 * high + (b % 64) as u16)
 }
 
-// An integer whose bytes are among three that are taken as they stand.
+// Whether an integer ends among the three bytes from `at` on, and all of its bytes are taken as they stand. What follows its low byte is not
+// looked at more than the sums ask for: the last integer of a command has an ESC behind it.
+fn ends_ahead(s: &[u8], at: usize) -> bool
+    ensures { λ r. ⌜ r ≡ endsAhead (now (s .entry)) at ⌝ }
+{
+    let size = s.len();
+    if at >= size {
+        return false;
+    }
+    if size - at < 3 {
+        return false;
+    }
+    let a = s[at];
+    let b = s[at + 1];
+    if a >= 127 {
+        return false;
+    }
+    if b >= 127 {
+        return false;
+    }
+    let place = at + highs_before(a, b);
+    let low = s[place];
+    if low < 32 {
+        return false;
+    }
+    low < 64
+}
+
+// Such an integer.
 fn among_three(kept: Remembered, s: &[u8], at: usize) -> IntegerRead
-    requires { ⌜ threeAhead (now s) at ≡ true ⌝ }
+    requires { ⌜ endsAhead (now s) at ≡ true ⌝ }
     ensures { λ r. ⌜ integerOf r ≡ integerAt kept (now (s .entry)) at ⌝ }
 {
     let a = s[at];
     let b = s[at + 1];
     let place = at + highs_before(a, b);
     let low = s[place];
-    if low < 64 {
-        let next = place + 1;
-        return low_byte(high_value(a, b), low, place, next);
-    }
-    IntegerRead::Refused(Refusal::IntegerOutside, place)
+    let next = place + 1;
+    low_byte(high_value(a, b), low, place, next)
 }
 
 pub fn read_integer(kept: Remembered, s: &[u8], at: usize) -> IntegerRead
     ensures { λ r. ⌜ integerOf r ≡ integerAt kept (now (s .entry)) at ⌝ }
 {
-    if wire::three_ahead(s, at) {
+    if ends_ahead(s, at) {
         return among_three(kept, s, at);
     }
     by_bytes(kept, s, at)

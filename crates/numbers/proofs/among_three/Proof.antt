@@ -1,8 +1,7 @@
 use Prim.Native.Nat.{_+_, _≤_}
 use lib.ListN.{length}
 use denote.Ref.{now}
-use Rattle.wire.proofs.Feeds.{room-ahead}
-use Rattle.numbers.proofs.Ahead.{aheads, few-highs, value-small}
+use Rattle.numbers.proofs.Ahead.{room-ahead, aheads, few-highs, value-small}
 use borrow.Author.Needs.{needs}
 use Rattle.numbers.proofs.among_three.Statement.{statement}
 use Rattle.numbers.proofs.among_three.Tie as tie
@@ -30,8 +29,8 @@ shared-slice-read-low c = search (needs, aheads)
 
 add-next : tie.Need-add-next
 add-next c =
-    let r = room (c .before .before .before .before) in
-    let f = few-highs _ _ (c .before .before .highs-before .ensures) in
+    let r = room (c .before .before .before) in
+    let f = few-highs _ _ (c .before .highs-before .ensures) in
     search needs
 
 high-value-requires : tie.Need-high-value-requires
@@ -42,9 +41,6 @@ low-byte-requires c κs = search (needs, value-small)
 
 returns : tie.Need-returns
 returns c = search (needs, aheads)
-
-returns-2 : tie.Need-returns-2
-returns-2 c = search (needs, aheads)
 
 pub among-three-spec : {M : Type 1} → statement M
 among-three-spec =
@@ -59,5 +55,4 @@ among-three-spec =
     add-next
     high-value-requires
     low-byte-requires
-    returns
-    returns-2)
+    returns)

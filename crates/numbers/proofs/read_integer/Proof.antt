@@ -3,8 +3,8 @@ use borrow.Author.Needs.{needs}
 use Rattle.numbers.proofs.read_integer.Statement.{statement}
 use Rattle.numbers.proofs.read_integer.Tie as tie
 
-three-ahead-requires : tie.Need-three-ahead-requires
-three-ahead-requires c κs = search needs
+ends-ahead-requires : tie.Need-ends-ahead-requires
+ends-ahead-requires c κs = search needs
 
 among-three-requires : tie.Need-among-three-requires
 among-three-requires c κs = search (needs, ahead-told)
@@ -21,4 +21,4 @@ returns-2 c = search needs
 pub read-integer-spec : {M : Type 1} → statement M
 read-integer-spec =
     tie.close
-    (tie.spec three-ahead-requires among-three-requires returns by-bytes-requires returns-2)
+    (tie.spec ends-ahead-requires among-three-requires returns by-bytes-requires returns-2)
