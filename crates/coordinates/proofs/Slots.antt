@@ -1,26 +1,45 @@
 -- What is remembered as three numbers, by the tests of the code.
-use Prim.Native.Nat.{ℕ}
-use mathlib.Core.Path.{_≡_}
+use Prim.Native.Nat.{ℕ, zero, suc, _≤_, _<_}
+use mathlib.Core.Path.{_≡_, refl}
 use mathlib.Core.List.{List, [], _∷_}
-use borrow.Author.Tests.{eq-eqb, ne-eqb}
+use native.Mathlib.Omega.{arith}
+use borrow.Author.Tests.{ne-eqb}
+use lib.Dec.{eqb}
 use lib.ListN.{getD}
 use Rattle.memory.specs.declared.DelMode.{DelMode}
 use Rattle.memory.specs.declared.DelMode.the-variants.{Data, Filler}
 use Rattle.memory.specs.declared.Remembered.{Remembered}
-use Rattle.coordinates.specs.Remembering.{modeNumber, slotsOf, pointIn, noMode, keptIn}
+use Rattle.refusals.specs.Answers.{pick}
+use Rattle.coordinates.specs.Remembering.{modeNumber, modeIn, slotsOf, pointIn, noMode, keptIn}
+
+-- ---- the mode of a number
+
+pub filler-mode : (n : ℕ) → n ≡ 1 → Filler ≡ modeIn n
+unfolding modeIn
+filler-mode n e = rw e
+
+pub data-mode : (n : ℕ) → (n ≡ 1 → ⊥) → Data ≡ modeIn n
+unfolding modeIn
+data-mode n e = rw (ne-eqb n 1 e)
+
+-- ---- what three numbers stand for
+
+pick-mode : (l : List ℕ) (n : ℕ) → n ≤ 1 → pointIn l (modeIn n) ≡ pick (eqb n 0) (pointIn l Data) (pick (eqb n 1) (pointIn l Filler) noMode)
+unfolding modeIn
+pick-mode l zero h = refl
+pick-mode l (suc zero) h = refl
+pick-mode l (suc (suc n)) h = absurd (omega arith)
 
 module _ (l : List ℕ) where
-  pub data-kept : getD l 2 0 ≡ 0 → pointIn l Data ≡ keptIn l
+  pub mode-kept : {m : DelMode} → getD l 2 0 ≤ 1 → m ≡ modeIn (getD l 2 0) → pointIn l m ≡ keptIn l
   unfolding keptIn
-  data-kept e = rw e
+  mode-kept h e = rw e (pick-mode l (getD l 2 0) h)
 
-  pub filler-kept : getD l 2 0 ≡ 1 → pointIn l Filler ≡ keptIn l
+  pub no-mode-kept : 1 < getD l 2 0 → noMode ≡ keptIn l
   unfolding keptIn
-  filler-kept e = rw e
+  no-mode-kept h = rw (ne-eqb (getD l 2 0) 0 (λ e. omega (arith, e)), ne-eqb (getD l 2 0) 1 (λ e. omega (arith, e)))
 
-  pub no-mode-kept : (getD l 2 0 ≡ 0 → ⊥) → (getD l 2 0 ≡ 1 → ⊥) → noMode ≡ keptIn l
-  unfolding keptIn
-  no-mode-kept z o = rw (ne-eqb (getD l 2 0) 0 z, ne-eqb (getD l 2 0) 1 o)
+-- ---- and their numbers
 
 pub data-number : {m : DelMode} → m ≡ Data → 0 ≡ modeNumber m
 unfolding modeNumber

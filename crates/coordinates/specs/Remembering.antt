@@ -13,6 +13,10 @@ unfoldable pub modeNumber : DelMode → ℕ
 modeNumber Data = 0
 modeNumber Filler = 1
 
+-- the mode of a number that has one
+unfoldable pub modeIn : ℕ → DelMode
+modeIn n = pick (eqb n 1) Filler Data
+
 unfoldable pub slotsOf : Remembered → List ℕ
 slotsOf kept = kept .point .x ∷ kept .point .y ∷ modeNumber (kept .mode) ∷ []
 

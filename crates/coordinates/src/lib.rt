@@ -1,7 +1,7 @@
 // What other languages hand in as numbers: a point of two numbers of any size, and what is remembered.
 ghost use mathlib.Core.Path.{_≡_};
 ghost use Rattle.coordinates.specs.Coordinates.{coordinateOf, pointGiven};
-ghost use Rattle.coordinates.specs.Remembering.{keptIn, modeNumber, slotsOf};
+ghost use Rattle.coordinates.specs.Remembering.{keptIn, modeIn, modeNumber, slotsOf};
 use memory::DelMode;
 use memory::Point;
 use memory::Remembered;
@@ -32,6 +32,15 @@ pub fn point_given(x: i32, y: i32) -> Point
 
 // ---- what is remembered
 
+fn mode_of(number: u16) -> DelMode
+    ensures { λ r. ⌜ r ≡ modeIn number ⌝ }
+{
+    if number == 1 {
+        return DelMode::Filler;
+    }
+    DelMode::Data
+}
+
 // A mode that is neither 0 nor 1 stands for a point outside, so that each call refuses it with 8, "value out of range".
 pub fn kept_in(remembered: &[u16; 3]) -> Remembered
     ensures { λ r. ⌜ r ≡ keptIn (now (remembered .entry)) ⌝ }
@@ -39,26 +48,21 @@ pub fn kept_in(remembered: &[u16; 3]) -> Remembered
     let x = remembered[0];
     let y = remembered[1];
     let number = remembered[2];
-    let last = Point { x: x, y: y };
-    if number == 0 {
+    if number > 1 {
+        let nowhere = Point {
+            x: OUTSIDE,
+            y: OUTSIDE,
+        };
         return Remembered {
-            point: last,
+            point: nowhere,
             mode: DelMode::Data,
         };
     }
-    if number == 1 {
-        return Remembered {
-            point: last,
-            mode: DelMode::Filler,
-        };
-    }
-    let nowhere = Point {
-        x: OUTSIDE,
-        y: OUTSIDE,
-    };
+    let last = Point { x: x, y: y };
+    let mode = mode_of(number);
     Remembered {
-        point: nowhere,
-        mode: DelMode::Data,
+        point: last,
+        mode: mode,
     }
 }
 

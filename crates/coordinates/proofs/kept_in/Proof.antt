@@ -1,4 +1,4 @@
-use Rattle.coordinates.proofs.Slots.{data-kept, filler-kept, no-mode-kept}
+use Rattle.coordinates.proofs.Slots.{no-mode-kept, mode-kept}
 use borrow.Author.Needs.{needs}
 use Rattle.coordinates.proofs.kept_in.Statement.{statement}
 use Rattle.coordinates.proofs.kept_in.Tie as tie
@@ -13,13 +13,13 @@ element-copy-out-number : tie.Need-element-copy-out-number
 element-copy-out-number c = search needs
 
 returns : tie.Need-returns
-returns c = search (needs, data-kept)
+returns c = search (needs, no-mode-kept)
+
+mode-of-requires : tie.Need-mode-of-requires
+mode-of-requires c κs = search needs
 
 returns-2 : tie.Need-returns-2
-returns-2 c = search (needs, filler-kept)
-
-returns-3 : tie.Need-returns-3
-returns-3 c = search (needs, no-mode-kept)
+returns-2 c = search (needs, mode-kept)
 
 pub kept-in-spec : {M : Type 1} → statement M
 kept-in-spec =
@@ -29,5 +29,5 @@ kept-in-spec =
     element-copy-out-y
     element-copy-out-number
     returns
-    returns-2
-    returns-3)
+    mode-of-requires
+    returns-2)
