@@ -12,8 +12,8 @@ use lib.ListN.{length, getD}
 use Rattle.memory.specs.declared.Remembered.{Remembered}
 use Rattle.refusals.specs.Answers.{Answer, Read, done}
 use Rattle.refusals.proofs.Cases.{and-left, and-right}
-use Rattle.wire.specs.Taking.{byteAt, isItself}
-use Rattle.wire.proofs.Feeds.{itself-taken}
+use Rattle.wire.specs.Taking.{byteAt}
+use Rattle.wire.proofs.Feeds.{itself-any, itself-taken}
 use Rattle.numbers.specs.Integers.{integerFrom, integerAt, lowByte}
 use Rattle.numbers.specs.Three.{highsBefore, highValue, endsAhead}
 use Rattle.numbers.proofs.Reading.{low-byte, high-byte}
@@ -168,10 +168,6 @@ module _ (s : List ℕ) (at : ℕ) where
 
 -- ---- the integer
 
-itself : (b : ℕ) → 32 ≤ b → b < 127 → isItself b ≡ true
-unfolding isItself
-itself b l h = rw (le-leb 32 b l, lt-ltb b 127 h)
-
 module _ (kept : Remembered) (s : List ℕ) (at : ℕ) (e : endsAhead s at ≡ true) where
   abbrev a : ℕ
   a = getD s at 0
@@ -187,22 +183,22 @@ module _ (kept : Remembered) (s : List ℕ) (at : ℕ) (e : endsAhead s at ≡ t
   first =
       itself-taken kept s at (omega (arith, room-ahead s at e))
       (by-highs a b
-      (λ l. itself a (subst (λ (k : ℕ). 32 ≤ getD s k 0) (add-zero at) (at-highs {n = 0} (no-highs a b l) .0)) (first-under s at e))
-      (λ l m. itself a (omega arith) (first-under s at e))
-      (λ l m. itself a (omega arith) (first-under s at e)))
+      (λ l. itself-any (kept .mode) a (subst (λ (k : ℕ). 32 ≤ getD s k 0) (add-zero at) (at-highs {n = 0} (no-highs a b l) .0)) (first-under s at e))
+      (λ l m. itself-any (kept .mode) a (omega arith) (first-under s at e))
+      (λ l m. itself-any (kept .mode) a (omega arith) (first-under s at e)))
 
   second : 64 ≤ a → byteAt kept s (at + 1) ≡ done (record { value = b; place = at + 1; next = at + 1 + 1 })
   second l =
       itself-taken kept s (at + 1) (omega (arith, room-ahead s at e))
       (by-highs a b
       (λ k. absurd (omega arith))
-      (λ k m. itself b (at-highs (one-before a b k m) .0) (second-under s at e))
-      (λ k m. itself b (omega arith) (second-under s at e)))
+      (λ k m. itself-any (kept .mode) b (at-highs (one-before a b k m) .0) (second-under s at e))
+      (λ k m. itself-any (kept .mode) b (omega arith) (second-under s at e)))
 
   third : 64 ≤ a → 64 ≤ b → byteAt kept s (at + 2) ≡ done (record { value = getD s (at + 2) 0; place = at + 2; next = at + 2 + 1 })
   third l m =
       let r = at-highs (two-before a b l m) in
-      itself-taken kept s (at + 2) (omega (arith, room-ahead s at e)) (itself (getD s (at + 2) 0) (r .0) (omega (arith, r .1)))
+      itself-taken kept s (at + 2) (omega (arith, room-ahead s at e)) (itself-any (kept .mode) (getD s (at + 2) 0) (r .0) (omega (arith, r .1)))
 
   first-high : 64 ≤ a → integerAt kept s at ≡ integerFrom kept 1 (a % 64) s (at + 1)
   first-high l = high-byte kept s at first 1 0 l ∙ ap (λ (h : ℕ). integerFrom kept 1 h s (at + 1)) (omega arith)

@@ -1,24 +1,26 @@
 -- Reading entries, as the code does it.
-use Prim.Native.Nat.{ℕ, zero, suc, _+_, _-_, _≤_, _<_}
+use Prim.Native.Nat.{ℕ, zero, suc, _+_, _-_, _^_, _≤_, _<_}
 use mathlib.Core.Path.{_≡_, refl, sym, _∙_, ap}
-use mathlib.Core.List.{List, [], _++_}
+use mathlib.Core.Bool.{Bool, true, false, _&&_}
+use mathlib.Core.List.{List, [], _∷_, _++_, map}
 use native.Mathlib.Omega.{arith}
 use native.Mathlib.Numerals.{add-one}
-use borrow.Author.Tests.{le-leb, lt-leb}
-use lib.ListN.{length, getD, take, drop, set, length-set}
-use lib.Seq.{sets, sets-eq, take-at, length-take-le, length-sets, paste, paste-zero, paste-suc}
+use borrow.Author.Tests.{le-leb, lt-leb, leb-true}
+use lib.Dec.{leb}
+use lib.ListN.{length, getD, take, drop, set, length-set, length-map, length-drop, List·getD-map}
+use lib.Seq.{sets, sets-eq, take-at, take-all, drop-cons, length-take-le, length-sets, paste, paste-zero, paste-suc}
 use lib.IntN.{ℤ, pos}
 use Rattle.memory.specs.declared.Remembered.{Remembered}
 use Rattle.refusals.specs.declared.Refusal.{Refusal}
 use Rattle.refusals.specs.Refusals.{numberOf}
-use Rattle.refusals.specs.Answers.{Answer, done, refused, Read, endsAfter, allAfter}
-use Rattle.refusals.proofs.Cases.{by-then, Done, done-of, done-map, is-done, not-done}
+use Rattle.refusals.specs.Answers.{Answer, done, refused, Read, every, endsAfter, allAfter}
+use Rattle.refusals.proofs.Cases.{by-then, and-left, and-right, Done, done-of, done-map, is-done, not-done}
 use Rattle.refusals.proofs.Many as many
 use Rattle.wire.specs.declared.TakenByte.{TakenByte}
 use Rattle.wire.specs.declared.ByteRead.{ByteRead}
 use Rattle.wire.specs.declared.ByteRead.the-variants.{Byte}
-use Rattle.wire.specs.Taking.{byteAt, byteOf}
-use Rattle.wire.proofs.Feeds.{byte-given, none-given}
+use Rattle.wire.specs.Taking.{byteAt, byteOf, isItself}
+use Rattle.wire.proofs.Feeds.{byte-given, none-given, itself-taken}
 use Rattle.numbers.specs.declared.TakenInteger.{TakenInteger}
 use Rattle.numbers.specs.declared.TakenCount.{TakenCount}
 use Rattle.numbers.specs.declared.IntegerRead.{IntegerRead}
@@ -34,7 +36,7 @@ use Rattle.parameters.specs.declared.EntriesEnd.{EntriesEnd}
 use Rattle.parameters.specs.declared.EntriesEnd.the-variants.{End}
 use Rattle.parameters.specs.declared.RunRead.{RunRead}
 use Rattle.parameters.specs.declared.RunRead.the-variants.{Counted}
-use Rattle.parameters.specs.Entries.{entryAt, entriesEnd, entryValues, entriesEndOf, runOf, runAt, handed, afterRun}
+use Rattle.parameters.specs.Entries.{entryAt, entriesEnd, entryValues, entriesEndOf, CountedRun, runOf, runAt, handed, afterRun, charactersAhead}
 
 -- ---- one entry
 
@@ -211,3 +213,119 @@ module _ (e : Entry) (kept : Remembered) (s : List ℕ) (at : ℕ) {c : CountRea
           j ∙ ap (λ (w : List ℤ). handed n (take n w) l) q ∙ ap (λ (w : List ℤ). handed n w l) front ∙ rw (← ec, g, ← et, h)
 
 pub ruleset runs = (count-few, count-there, run-no, kept-no, run-cut, kept-cut, run-whole, run-handed)
+
+-- ---- characters that are taken as they stand
+
+-- they end so many places behind, and are the bytes themselves
+record AsTheyStand (kept : Remembered) (k : ℕ) (s : List ℕ) (at : ℕ) : Type 0 where
+  end-is : entriesEnd ACharacter kept k s at ≡ done (at + k)
+  values-are : entryValues ACharacter kept k s at ≡ map pos (take k (drop at s))
+
+character-so : (kept : Remembered) (s : List ℕ) (at : ℕ) → at < length s → isItself (kept .mode) (getD s at 0) ≡ true → entryAt ACharacter kept s at ≡ done (record { value = pos (getD s at 0); place = at; next = at + 1 })
+unfolding entryAt
+character-so kept s at h e = rw (itself-taken kept s at h e)
+
+as-they-stand : (kept : Remembered) (k : ℕ) (s : List ℕ) (at : ℕ) → at + k ≤ length s → every (isItself (kept .mode)) (take k (drop at s)) ≡ true → AsTheyStand kept k s at
+unfolding endsAfter allAfter every
+as-they-stand kept zero s at h e = record { end-is = ap done (omega arith); values-are = refl }
+as-they-stand kept (suc k) s at h e =
+    let b = getD s at 0 in
+    let d : drop at s ≡ b ∷ drop (at + 1) s = drop-cons s at 0 (omega arith) ∙ rw (add-one at) in
+    let q : isItself (kept .mode) b && every (isItself (kept .mode)) (take k (drop (at + 1) s)) ≡ true = rw d at e in
+    let one = character-so kept s at (omega arith) (and-left (isItself (kept .mode) b) _ q) in
+    let rest = as-they-stand kept k s (at + 1) (omega arith) (and-right (isItself (kept .mode) b) _ q) in
+    record {
+      end-is = rw one (rest .end-is ∙ ap done (omega arith));
+      values-are = rw (one, d) (ap (λ (vs : List ℤ). pos b ∷ vs) (rest .values-are));
+    }
+
+module _ (kept : Remembered) (k : ℕ) (s : List ℕ) (at : ℕ) where
+  pub ahead-past : length s < at → false ≡ charactersAhead kept k s at
+  unfolding charactersAhead
+  ahead-past h = rw (lt-leb (at + k) (length s) (omega arith))
+
+  pub ahead-short : at ≤ length s → length s - at < k → false ≡ charactersAhead kept k s at
+  unfolding charactersAhead
+  ahead-short h l = rw (lt-leb (at + k) (length s) (omega arith))
+
+  pub ahead-so : {r : Bool} → at ≤ length s → k ≤ length s - at → r ≡ every (isItself (kept .mode)) (take (at + k - at) (drop at s)) → r ≡ charactersAhead kept k s at
+  unfolding charactersAhead
+  ahead-so h l e =
+      let z : at + k - at ≡ k = omega arith in
+      rw (le-leb (at + k) (length s) (omega arith), ← z) e
+
+  module _ {r : Bool} (er : r ≡ charactersAhead kept k s at) (t : r ≡ true) where
+    there : charactersAhead kept k s at ≡ true
+    there = sym er ∙ t
+
+    pub ahead-room : at + k ≤ length s
+    unfolding charactersAhead
+    ahead-room = leb-true (at + k) (length s) (and-left (leb (at + k) (length s)) _ there)
+
+    standing : AsTheyStand kept k s at
+    unfolding charactersAhead
+    standing = as-they-stand kept k s at ahead-room (and-right (leb (at + k) (length s)) _ there)
+
+pub ruleset aheads = (ahead-past, ahead-short, ahead-so, ahead-room)
+
+-- ---- into the front of the list
+
+module _ (w : List ℕ) (l : List ℤ) where
+  pub laying-no : length l < length w → l ≡ handed (length w) (map pos w) l
+  unfolding handed
+  laying-no h = rw (lt-leb (length w) (length l) h)
+
+  pub laying-none : length w ≤ length l → Handing (map pos w) (length w) l l 0
+  laying-none h = handing-none (map pos w) (length w) l h
+
+module _ (w : List ℕ) (l₀ l : List ℤ) (i : ℕ) (f : Handing (map pos w) (length w) l₀ l i) where
+  pub laying-more : (x : ℤ) → i < length w → x ≡ pos (getD w i 0) → Handing (map pos w) (length w) l₀ (set l i x) (i + 1)
+  laying-more x h e =
+      handing-more (map pos w) (length w) l₀ l i f (omega (arith, length-map w pos)) (pos 0) x h (e ∙ sym (List·getD-map pos w i 0))
+
+  pub laying-end : length w ≤ i → l ≡ handed (length w) (map pos w) l₀
+  laying-end h =
+      let long : length (map pos w) ≤ length w = omega (arith, length-map w pos) in
+      handing-end (map pos w) (length w) l₀ l i f (omega (arith, length-map w pos)) h
+      ∙ ap (λ (es : List ℤ). handed (length w) es l₀) (take-all (length w) (map pos w) long)
+
+pub ruleset layings = (laying-no, laying-none, laying-more, laying-end)
+
+-- ---- a string of them
+
+module _ (kept : Remembered) (s : List ℕ) (at : ℕ) {c : CountRead} (ec : countOf c ≡ countAt kept s at) {k : TakenCount} (g : c ≡ Count k) {r : Bool} (er : r ≡ charactersAhead kept (k .value) s (k .next)) (t : r ≡ true) where
+  so : AsTheyStand kept (k .value) s (k .next)
+  so = standing kept (k .value) s (k .next) er t
+
+  told : entriesEndOf (End (k .next + k .value)) ≡ entriesEnd ACharacter kept (k .value) s (k .next)
+  unfolding entriesEndOf
+  told = sym (so .end-is)
+
+  pub string-whole : runOf (Counted (record { start = k .next; count = k .value }) (k .next + k .value)) ≡ runAt ACharacter kept s at
+  string-whole = run-whole ACharacter kept s at ec g told refl
+
+  laid : (w : List ℕ) (l : List ℤ) → w ≡ take (k .value) (drop (k .next) s) → handed (k .value) (map pos w) l ≡ afterRun ACharacter kept s (runAt ACharacter kept s at) l
+  unfolding runAt afterRun countOf
+  laid w l e = rw (← ec, g, so .end-is, so .values-are, e)
+
+  pub string-laid : (l : List ℤ) {o : List ℤ} → o ≡ handed (length (take (k .next + k .value - k .next) (drop (k .next) s))) (map pos (take (k .next + k .value - k .next) (drop (k .next) s))) l → o ≡ afterRun ACharacter kept s (runAt ACharacter kept s at) l
+  string-laid l e =
+      let n = k .value in
+      let z : k .next + n - k .next ≡ n = omega arith in
+      let w = take n (drop (k .next) s) in
+      let room : n ≤ length (drop (k .next) s) = omega (arith, length-drop (k .next) s, ahead-room kept n s (k .next) er t) in
+      let long : length w ≡ n = length-take-le n (drop (k .next) s) room in
+      (rw z at e) ∙ ap (λ (m : ℕ). handed m (map pos w) l) long ∙ laid w l refl
+
+  pub string-counts : length s < 2 ^ 64 → k .next + k .value < 2 ^ 64
+  string-counts h = omega (arith, h, ahead-room kept (k .value) s (k .next) er t)
+
+pub ruleset strings = (ahead-room, string-whole, string-laid)
+
+-- what is read of the kind of entry that it is
+module _ (kept : Remembered) (s : List ℕ) (at : ℕ) {e : Entry} (g : e ≡ ACharacter) where
+  pub string-run : {q : Answer CountedRun} → q ≡ runAt ACharacter kept s at → q ≡ runAt e kept s at
+  string-run j = rw g j
+
+  pub string-left : (l : List ℤ) {o : List ℤ} → o ≡ afterRun ACharacter kept s (runAt ACharacter kept s at) l → o ≡ afterRun e kept s (runAt e kept s at) l
+  string-left l j = rw g j

@@ -1,14 +1,15 @@
 -- "A string is a count and that many bytes 32..127; an array is a count and that many integers."
-use Prim.Native.Nat.{ℕ}
+use Prim.Native.Nat.{ℕ, _+_}
+use mathlib.Core.Bool.{Bool, _&&_}
 use mathlib.Core.List.{List}
 use lib.Dec.{leb}
-use lib.ListN.{length}
+use lib.ListN.{length, take, drop}
 use lib.Seq.{sets}
 use lib.IntN.{ℤ, pos}
 use Rattle.memory.specs.declared.Remembered.{Remembered}
 use Rattle.refusals.specs.Refusals.{numberOf}
-use Rattle.refusals.specs.Answers.{Answer, done, refused, Read, then, pick, endsAfter, allAfter}
-use Rattle.wire.specs.Taking.{byteAt}
+use Rattle.refusals.specs.Answers.{Answer, done, refused, Read, then, pick, every, endsAfter, allAfter}
+use Rattle.wire.specs.Taking.{byteAt, isItself}
 use Rattle.numbers.specs.Integers.{integerAt}
 use Rattle.numbers.specs.Counts.{countAt}
 use Rattle.parameters.specs.declared.Entry.{Entry}
@@ -62,3 +63,7 @@ handed k es l = pick (leb k (length l)) (sets l 0 es) l
 unfoldable pub afterRun : Entry → Remembered → List ℕ → Answer CountedRun → List ℤ → List ℤ
 afterRun e kept s (done h) l = handed (h .count) (entryValues e kept (h .count) s (h .start)) l
 afterRun e kept s (refused x p) l = l
+
+-- k characters stand from at on, each of which is taken as it stands
+unfoldable pub charactersAhead : Remembered → ℕ → List ℕ → ℕ → Bool
+charactersAhead kept k s at = leb (at + k) (length s) && every (isItself (kept .mode)) (take k (drop at s))

@@ -1,7 +1,7 @@
 // The parameters of a command: read by kind, and what they hold. The entries of a string or an array are read once, into an array of their own:
-// they come last, and go to the lent list once all of them are known to be good.
+// they come last, and go to the lent list once all of them are known to be good. Characters that are all taken as they stand go there at once.
 ghost use mathlib.Core.Path.{_≡_};
-ghost use mathlib.Core.List.{[], _∷_};
+ghost use mathlib.Core.List.{[], _∷_, map};
 ghost use Prim.Native.Nat.{_≤_};
 ghost use lib.ListN.{length, take};
 ghost use lib.Seq.{sets};
@@ -9,7 +9,7 @@ ghost use lib.IntN.{pos};
 ghost use Rattle.refusals.specs.Answers.{done};
 ghost use Rattle.table.specs.Table.{oneInteger, twoIntegers, threeIntegers, onePoint, twoPoints, aReal, twoCharacters, kindMeant};
 ghost use Rattle.numbers.specs.Integers.{integerOf};
-ghost use Rattle.parameters.specs.Entries.{entryAt, entryValues, entriesEndOf, entriesEnd, runOf, runAt, handed, afterRun};
+ghost use Rattle.parameters.specs.Entries.{entryAt, entryValues, entriesEndOf, entriesEnd, runOf, runAt, handed, afterRun, charactersAhead};
 ghost use Rattle.parameters.specs.Shapes.{shapeOf, listShape, integerThenListShape, listOf, number, valuesOf, tailOf, lastPoint, tailMeant, pointMeant};
 ghost use Rattle.parameters.specs.Numbers.{Holds};
 ghost use Rattle.parameters.specs.Looking.{twoEntriesOf, twoEntriesAt, parsedAs, lookOf, parametersAt, afterLook};
@@ -179,8 +179,8 @@ fn hand_over(entries: &[i32; 256], count: usize, list: &mut [i32])
     }
 }
 
-// A count and that many entries, which go to the list if they are whole and it has room for all of them.
-fn run_of(kept: Remembered, entry: Entry, s: &[u8], at: usize, list: &mut [i32]) -> RunRead
+// A count and that many entries, one by one, which go to the list if they are whole and it has room for all of them.
+fn run_with_care(kept: Remembered, entry: Entry, s: &[u8], at: usize, list: &mut [i32]) -> RunRead
     ensures { λ r. ⌜ (runOf r ≡ runAt entry kept (now (s .entry)) at) × (now (list .exit) ≡ afterRun entry kept (now (s .entry)) (runAt entry kept (now (s .entry)) at) (now (list .entry))) ⌝ }
 {
     match numbers::read_count(kept, s, at) {
@@ -201,6 +201,70 @@ fn run_of(kept: Remembered, entry: Entry, s: &[u8], at: usize, list: &mut [i32])
             }
         }
         CountRead::Refused(e, p) => RunRead::Refused(e, p),
+    }
+}
+
+// Bytes that are taken as they stand, as entries into the front of the list, if it has room for all of them.
+fn lay_characters(w: &[u8], list: &mut [i32])
+    ensures { λ _. ⌜ now (list .exit) ≡ handed (length (now (w .entry))) (map pos (now (w .entry))) (now (list .entry)) ⌝ }
+{
+    if w.len() > list.len() {
+        return;
+    }
+    let mut i = 0;
+    while i < w.len() {
+        let b = w[i];
+        list[i] = characters::entry_of(b);
+        i = i + 1;
+    }
+}
+
+// Whether so many characters stand from `at` on, each of which is taken as it stands.
+fn characters_ahead(kept: Remembered, count: usize, s: &[u8], at: usize) -> bool
+    ensures { λ r. ⌜ r ≡ charactersAhead kept count (now (s .entry)) at ⌝ }
+{
+    let size = s.len();
+    if at > size {
+        return false;
+    }
+    if count > size - at {
+        return false;
+    }
+    let mode = kept.mode;
+    let end = at + count;
+    wire::are_themselves(mode, &s[at..end])
+}
+
+// A string.
+fn string_of(kept: Remembered, s: &[u8], at: usize, list: &mut [i32]) -> RunRead
+    ensures { λ r. ⌜ (runOf r ≡ runAt Entry.ACharacter kept (now (s .entry)) at) × (now (list .exit) ≡ afterRun Entry.ACharacter kept (now (s .entry)) (runAt Entry.ACharacter kept (now (s .entry)) at) (now (list .entry))) ⌝ }
+{
+    match numbers::read_count(kept, s, at) {
+        CountRead::Count(taken) => {
+            let count = taken.value;
+            let start = taken.next;
+            if characters_ahead(kept, count, s, start) {
+                let end = start + count;
+                lay_characters(&s[start..end], list);
+                let run = Run {
+                    start: start,
+                    count: count,
+                };
+                return RunRead::Counted(run, end);
+            }
+            run_with_care(kept, Entry::ACharacter, s, at, list)
+        }
+        CountRead::Refused(e, p) => RunRead::Refused(e, p),
+    }
+}
+
+// A string or an array.
+fn run_of(kept: Remembered, entry: Entry, s: &[u8], at: usize, list: &mut [i32]) -> RunRead
+    ensures { λ r. ⌜ (runOf r ≡ runAt entry kept (now (s .entry)) at) × (now (list .exit) ≡ afterRun entry kept (now (s .entry)) (runAt entry kept (now (s .entry)) at) (now (list .entry))) ⌝ }
+{
+    match entry {
+        Entry::AnInteger => run_with_care(kept, entry, s, at, list),
+        Entry::ACharacter => string_of(kept, s, at, list),
     }
 }
 
@@ -354,7 +418,7 @@ fn integer_then_list(a: i32, entry: Entry) -> Parameters
     }
 }
 
-// A string or an array.
+// The parameters that are a string or an array alone.
 fn look_list(
     kept: Remembered,
     entry: Entry,

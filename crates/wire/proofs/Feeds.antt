@@ -15,11 +15,12 @@ use Rattle.refusals.specs.declared.Refusal.{Refusal}
 use Rattle.refusals.specs.Refusals.{numberOf}
 use Rattle.refusals.specs.Answers.{Answer, done, refused, Read, pick, pastFront}
 use Rattle.refusals.proofs.Cases.{by-pick, and-left, and-right, Done, done-of, done-map, is-done, not-done}
+use Rattle.refusals.proofs.Many.{Checking, checking-none, checking-more, checking-end}
 use Rattle.refusals.proofs.Passing.{past-here, past-on, past-within, past-stops}
 use Rattle.wire.specs.declared.ByteRead.{ByteRead}
 use Rattle.wire.specs.declared.TakenByte.{TakenByte}
 use Rattle.wire.specs.declared.ByteRead.the-variants.{Byte, Refused}
-use Rattle.wire.specs.Taking.{isDel, pastDels, pairAt, foundAt, byteAt, byteOf, isItself, threeAhead}
+use Rattle.wire.specs.Taking.{isDel, pastDels, pairAt, foundAt, byteAt, byteOf, mostItself, isItself}
 use Rattle.wire.specs.Sending.{sentIn, sent}
 use Rattle.wire.proofs.Sendings.{sent-append, sent-none, sent-long, sent-long-in, one-size}
 
@@ -75,6 +76,11 @@ unfolding pastDels
 past-no-del Data s at i e = refl
 past-no-del Filler s at i e = past-here isDel s at i (ne-eqb (getD s at 0) 127 e)
 
+-- and where a DEL is data none is
+past-stays : (s : List ℕ) (at : ℕ) → pastDels Data s at ≡ at
+unfolding pastDels
+past-stays s at = refl
+
 -- passing over goes forward, and no farther than the end
 pub dels-on : (m : DelMode) (s : List ℕ) (at : ℕ) → at ≤ pastDels m s at
 unfolding pastDels
@@ -98,79 +104,50 @@ found-pair m s at i e f =
     let g : pastDels m s (at + 1) ≡ at + 1 = past-no-del m s (at + 1) i (λ q. let z : _≡_ {A = ℕ} 63 127 = sym f ∙ q in omega (arith, z)) in
     simp (e, g, f, lt-ltb at (length s) (omega arith), lt-ltb (at + 1) (length s) i)
 
-take-plain : (kept : Remembered) (s : List ℕ) (at b : ℕ) → at < length s → getD s at 0 ≡ b → 32 ≤ b → b < 127 → byteAt kept s at ≡ done (record { value = b; place = at; next = at + 1 })
-unfolding byteAt
-take-plain kept s at b i e l h =
-    let g : pastDels (kept .mode) s at ≡ at = past-no-del (kept .mode) s at i (λ q. let z : b ≡ 127 = sym e ∙ q in omega (arith, z, h)) in
-    rw g (found-plain (kept .mode) s at b i e l (omega arith))
+-- ---- the bytes that are taken as they stand
 
--- ---- three bytes that are taken as they stand
+pub most-data : {m : DelMode} → m ≡ Data → 127 ≡ mostItself m
+unfolding mostItself
+most-data e = rw e
 
-pub itself-no : (b : ℕ) → b < 32 → false ≡ isItself b
+pub most-filler : {m : DelMode} → m ≡ Filler → 126 ≡ mostItself m
+unfolding mostItself
+most-filler e = rw e
+
+pub itself-no : (m : DelMode) (b : ℕ) → b < 32 → false ≡ isItself m b
 unfolding isItself
-itself-no b h = rw (lt-leb 32 b h)
+itself-no m b h = rw (lt-leb 32 b h)
 
-pub itself-yes : (b : ℕ) → 32 ≤ b → ltb b 127 ≡ isItself b
+pub itself-yes : (m : DelMode) (b : ℕ) {n : ℕ} → 32 ≤ b → n ≡ mostItself m → leb b n ≡ isItself m b
 unfolding isItself
-itself-yes b h = rw (le-leb 32 b h)
+itself-yes m b h e = rw (le-leb 32 b h, e)
 
-module _ (s : List ℕ) (at : ℕ) where
-  pub ahead-few : length s - at < 3 → false ≡ threeAhead s at
-  unfolding threeAhead
-  ahead-few h = rw (lt-leb (at + 3) (length s) (omega arith))
+-- whatever is remembered
+pub itself-any : (m : DelMode) (b : ℕ) → 32 ≤ b → b < 127 → isItself m b ≡ true
+unfolding isItself mostItself
+itself-any Data b l h = rw (le-leb 32 b l, le-leb b 127 (omega arith))
+itself-any Filler b l h = rw (le-leb 32 b l, le-leb b 126 (omega arith))
 
-  pub ahead-none : length s ≤ at → false ≡ threeAhead s at
-  ahead-none h = ahead-few (omega arith)
+-- one byte after the other
+pub itself-more : (m : DelMode) (w : List ℕ) (i : ℕ) {good b next : Bool} → Checking (isItself m) w i good → i < length w → b ≡ isItself m (getD w i 0) → next ≡ good && b → Checking (isItself m) w (i + 1) next
+itself-more m w i f h eb en = checking-more (isItself m) w 0 i (getD w i 0) f h refl eb en
 
-  module _ (h : 3 ≤ length s - at) {a : Bool} (ea : a ≡ isItself (getD s at 0)) where
-    room : leb (at + 3) (length s) ≡ true
-    room = le-leb (at + 3) (length s) (omega arith)
+pub ruleset themselves = (checking-none, itself-more, checking-end)
 
-    pub first-no : a ≡ false → false ≡ threeAhead s at
-    unfolding threeAhead
-    first-no t = rw (room, ← ea, t)
+itself-found : (m : DelMode) (s : List ℕ) (at : ℕ) → at < length s → 32 ≤ getD s at 0 → getD s at 0 ≤ mostItself m → foundAt m s (pastDels m s at) ≡ done (record { value = getD s at 0; place = at; next = at + 1 })
+unfolding mostItself
+itself-found Data s at i l h =
+    rw (past-stays s at) (found-plain Data s at (getD s at 0) i refl l h)
+itself-found Filler s at i l h =
+    let g : pastDels Filler s at ≡ at = past-no-del Filler s at i (λ q. omega (arith, q, h)) in
+    rw g (found-plain Filler s at (getD s at 0) i refl l (omega arith))
 
-    module _ {b : Bool} (eb : b ≡ isItself (getD s (at + 1) 0)) (t : a ≡ true) where
-      pub second-no : b ≡ false → false ≡ threeAhead s at
-      unfolding threeAhead
-      second-no u = rw (room, ← ea, t, ← eb, u)
-
-      pub third-so : {c : Bool} → b ≡ true → c ≡ isItself (getD s (at + 2) 0) → c ≡ threeAhead s at
-      unfolding threeAhead
-      third-so u ec = rw (room, ← ea, t, ← eb, u, ec)
-
-  -- what it says
-  module _ (e : threeAhead s at ≡ true) where
-    pub room-ahead : at + 3 ≤ length s
-    unfolding threeAhead
-    room-ahead = leb-true (at + 3) (length s) (and-left (leb (at + 3) (length s)) _ e)
-
-    themselves : isItself (getD s at 0) && (isItself (getD s (at + 1) 0) && isItself (getD s (at + 2) 0)) ≡ true
-    unfolding threeAhead
-    themselves = and-right (leb (at + 3) (length s)) _ e
-
-    pub first-ahead : isItself (getD s at 0) ≡ true
-    first-ahead = and-left (isItself (getD s at 0)) _ themselves
-
-    last-two : isItself (getD s (at + 1) 0) && isItself (getD s (at + 2) 0) ≡ true
-    last-two = and-right (isItself (getD s at 0)) _ themselves
-
-    pub second-ahead : isItself (getD s (at + 1) 0) ≡ true
-    second-ahead = and-left (isItself (getD s (at + 1) 0)) _ last-two
-
-    pub third-ahead : isItself (getD s (at + 2) 0) ≡ true
-    third-ahead = and-right (isItself (getD s (at + 1) 0)) _ last-two
-
-pub itself-range : (b : ℕ) → isItself b ≡ true → (32 ≤ b) × (b < 127)
-unfolding isItself
-itself-range b e =
-    (leb-true 32 b (and-left (leb 32 b) (ltb b 127) e), ltb-true b 127 (and-right (leb 32 b) (ltb b 127) e))
-
-pub itself-taken : (kept : Remembered) (s : List ℕ) (at : ℕ) → at < length s → isItself (getD s at 0) ≡ true → byteAt kept s at ≡ done (record { value = getD s at 0; place = at; next = at + 1 })
+pub itself-taken : (kept : Remembered) (s : List ℕ) (at : ℕ) → at < length s → isItself (kept .mode) (getD s at 0) ≡ true → byteAt kept s at ≡ done (record { value = getD s at 0; place = at; next = at + 1 })
+unfolding byteAt isItself
 itself-taken kept s at h e =
-    let r = itself-range (getD s at 0) e in take-plain kept s at (getD s at 0) h refl (r .0) (r .1)
-
-pub ruleset aheads = (ahead-few, ahead-none, first-no, second-no, third-so)
+    let m = mostItself (kept .mode) in
+    let b = getD s at 0 in
+    itself-found (kept .mode) s at h (leb-true 32 b (and-left (leb 32 b) (leb b m) e)) (leb-true b m (and-right (leb 32 b) (leb b m) e))
 
 -- ---- what is sent is taken
 

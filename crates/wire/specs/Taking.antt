@@ -49,11 +49,10 @@ foundAt mode s at =
 unfoldable pub byteAt : Remembered → List ℕ → ℕ → Answer (Read ℕ)
 byteAt kept s at = foundAt (kept .mode) s (pastDels (kept .mode) s at)
 
--- a byte that is taken as it stands, whatever is remembered: neither ESC nor DEL
-unfoldable pub isItself : ℕ → Bool
-isItself b = leb 32 b && ltb b 127
+-- the highest byte that is taken as it stands: a DEL only where it is data
+unfoldable pub mostItself : DelMode → ℕ
+mostItself Data = 127
+mostItself Filler = 126
 
--- three such bytes stand from at on
-unfoldable pub threeAhead : List ℕ → ℕ → Bool
-threeAhead s at =
-    leb (at + 3) (length s) && (isItself (getD s at 0) && (isItself (getD s (at + 1) 0) && isItself (getD s (at + 2) 0)))
+unfoldable pub isItself : DelMode → ℕ → Bool
+isItself mode b = leb 32 b && leb b (mostItself mode)

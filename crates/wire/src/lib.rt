@@ -4,8 +4,8 @@ ghost use Prim.Native.Nat.{_+_};
 ghost use mathlib.Core.List.{[], _∷_};
 ghost use lib.ListN.{length};
 ghost use lib.Seq.{sets};
-ghost use Rattle.refusals.specs.Answers.{pastFront};
-ghost use Rattle.wire.specs.Taking.{isDel, pastDels, pairAt, foundAt, byteAt, byteOf, isItself, threeAhead};
+ghost use Rattle.refusals.specs.Answers.{pastFront, every};
+ghost use Rattle.wire.specs.Taking.{isDel, pastDels, pairAt, foundAt, byteAt, byteOf, mostItself, isItself};
 ghost use Rattle.wire.specs.Sending.{sent, isPlain, roomFor, inRoom, writeAt, afterWrite, writtenOf};
 use memory::DelMode;
 use memory::Remembered;
@@ -109,33 +109,37 @@ pub fn take(kept: Remembered, s: &[u8], at: usize) -> ByteRead
     found(mode, s, from)
 }
 
-// A byte that is taken as it stands: neither ESC nor DEL.
-fn is_itself(b: u8) -> bool
-    ensures { λ r. ⌜ r ≡ isItself b ⌝ }
+// The highest byte that is taken as it stands: a DEL only where it is data.
+fn most_itself(mode: DelMode) -> u8
+    ensures { λ r. ⌜ r ≡ mostItself mode ⌝ }
+{
+    match mode {
+        DelMode::Data => 127,
+        DelMode::Filler => 126,
+    }
+}
+
+fn is_itself(mode: DelMode, b: u8) -> bool
+    ensures { λ r. ⌜ r ≡ isItself mode b ⌝ }
 {
     if b < 32 {
         return false;
     }
-    b < 127
+    b <= most_itself(mode)
 }
 
-// Whether three bytes stand from `at` on that are taken as they stand: an integer has no more, and is then read without asking at each byte.
-pub fn three_ahead(s: &[u8], at: usize) -> bool
-    ensures { λ r. ⌜ r ≡ threeAhead (now (s .entry)) at ⌝ }
+// Whether each of these bytes is taken as it stands. They may then be copied, with nothing asked between one and the next.
+pub fn are_themselves(mode: DelMode, w: &[u8]) -> bool
+    ensures { λ r. ⌜ r ≡ every (isItself mode) (now (w .entry)) ⌝ }
 {
-    let size = s.len();
-    if at >= size {
-        return false;
+    let mut i = 0;
+    let mut good = true;
+    while i < w.len() {
+        let b = w[i];
+        good = refusals::both(good, is_itself(mode, b));
+        i = i + 1;
     }
-    if size - at < 3 {
-        return false;
-    }
-    if is_itself(s[at]) {
-        if is_itself(s[at + 1]) {
-            return is_itself(s[at + 2]);
-        }
-    }
-    false
+    good
 }
 
 // Where so many bytes end from `at` on, or 7 where they have too little room.
