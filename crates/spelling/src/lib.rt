@@ -43,6 +43,30 @@ fn pour_magnitude(kept: Remembered, mag: u32, negative: bool, out: &mut [u8], at
     wire::pour_three(kept, first, last, low, out, at)
 }
 
+// The same where each byte is sent as itself: no byte is asked whether it is a 127.
+fn lay_magnitude(mag: u32, negative: bool, out: &mut [u8], at: usize) -> usize
+    requires { ⌜ mag ≤ 32768 ⌝ }
+    ensures { λ r. ⌜ (r ≡ length (spellOf mag negative)) × (now (out .exit) ≡ sets (now (out .entry)) at (spellOf mag negative)) ⌝ }
+{
+    let low = low_of(mag, negative);
+    if mag < 16 {
+        wire::store_behind(0, low, out, at);
+        return 1;
+    }
+    let highs = mag / 16;
+    let last = 64 + (highs % 64) as u8;
+    if highs < 64 {
+        wire::store_behind(0, last, out, at);
+        wire::store_behind(1, low, out, at);
+        return 2;
+    }
+    let first = 64 + (highs / 64) as u8;
+    wire::store_behind(0, first, out, at);
+    wire::store_behind(1, last, out, at);
+    wire::store_behind(2, low, out, at);
+    3
+}
+
 // The bytes of an integer as far as there is room, and how many they are; of a value outside its range none.
 pub fn pour_integer(kept: Remembered, v: i32, out: &mut [u8], at: usize) -> usize
     ensures { λ r. ⌜ (r ≡ length (poured (isInteger v) (sent kept (spell v)))) × (now (out .exit) ≡ sets (now (out .entry)) at (poured (isInteger v) (sent kept (spell v)))) ⌝ }
@@ -51,6 +75,9 @@ pub fn pour_integer(kept: Remembered, v: i32, out: &mut [u8], at: usize) -> usiz
     let mag = signs::magnitude(v);
     if mag > signs::most_magnitude(negative) {
         return 0;
+    }
+    if wire::is_plain(kept) {
+        return lay_magnitude(mag, negative, out, at);
     }
     pour_magnitude(kept, mag, negative, out, at)
 }
@@ -63,6 +90,9 @@ pub fn pour_count(kept: Remembered, n: usize, out: &mut [u8], at: usize) -> usiz
         return 0;
     }
     let mag = n as u32;
+    if wire::is_plain(kept) {
+        return lay_magnitude(mag, false, out, at);
+    }
     pour_magnitude(kept, mag, false, out, at)
 }
 

@@ -37,7 +37,7 @@ use Rattle.commands.specs.declared.Command.{Command}
 use Rattle.commands.specs.Behind.{leading, afterLetters, afterCommand}
 use Rattle.writable.specs.Writable.{isKind, isEntry, areEntries, areValues, isTail, fits, isCommand}
 use Rattle.writing.specs.Writing.{spellEntry, spellEntries, spellValues, spellTail, spellParameters, spellCommand, Poured, mostWritten}
-use Rattle.writing.proofs.Sizes.{bytes-few}
+use Rattle.writing.proofs.Sizes.{tail-kept, bytes-few}
 use Rattle.writing.proofs.Pouring.{poured-both}
 
 -- ---- entries
@@ -215,9 +215,9 @@ module _ (kept : Remembered) (ps : Parameters) (es : List ℤ) (h : fits kept ps
 pub head-stored : (l : List ℕ) (a b : ℕ) {m₁ m₂ o : List ℕ} → m₁ ≡ sets l (0 + 0) (27 ∷ []) → m₂ ≡ sets m₁ (0 + 1) (a ∷ []) → o ≡ sets m₂ (0 + 2) (b ∷ []) → o ≡ sets l 0 (27 ∷ a ∷ b ∷ [])
 head-stored l a b e f g = g ∙ rw (f, e)
 
-pub command-poured : (kept : Remembered) (c : Command) (es : List ℤ) {k : Remembered} (l m o q : List ℕ) (n r : ℕ) → m ≡ sets l 0 (27 ∷ c .first ∷ c .second ∷ []) → Poured (spellValues kept (valuesOf (c .parameters))) 12 m o 3 n → k ≡ afterValues kept (valuesOf (c .parameters)) → Poured (spellTail k (tailOf (c .parameters)) es) 1028 o q (3 + n) r → Poured (spellCommand kept c es) 1043 l q 0 (3 + n + r)
+pub command-poured : (kept : Remembered) (c : Command) (es : List ℤ) (l m o q : List ℕ) (n r : ℕ) → m ≡ sets l 0 (27 ∷ c .first ∷ c .second ∷ []) → Poured (spellValues kept (valuesOf (c .parameters))) 12 m o 3 n → Poured (spellTail kept (tailOf (c .parameters)) es) 1028 o q (3 + n) r → Poured (spellCommand kept c es) 1043 l q 0 (3 + n + r)
 unfolding spellCommand spellParameters
-command-poured kept c es l m o q n r em f ek g =
+command-poured kept c es l m o q n r em f g =
     let head : List ℕ = 27 ∷ c .first ∷ c .second ∷ [] in
     let vs = valuesOf (c .parameters) in
     let w = spellValues kept vs in
@@ -225,7 +225,7 @@ command-poured kept c es l m o q n r em f ek g =
     let first : Poured head 3 l m 0 3 = record { size = refl; stand = em; few = omega arith } in
     let two : Poured (head ++ w) 15 l o 0 (3 + n) = poured-both head w 3 12 15 l m o 0 3 n first f (omega arith) in
     let y : 0 + (3 + n) ≡ 3 + n = omega arith in
-    let g′ : Poured t 1028 o q (0 + (3 + n)) r = rw (y, ← ek) g in
+    let g′ : Poured t 1028 o q (0 + (3 + n)) r = rw (y, tail-kept kept vs (tailOf (c .parameters)) es) g in
     rw (← append-assoc head w t) (poured-both (head ++ w) t 15 1028 1043 l o q 0 (3 + n) r two g′ (omega arith))
 
 -- ---- written, or refused

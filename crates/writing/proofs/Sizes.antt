@@ -106,6 +106,33 @@ unfolding afterValues
 values-mode kept [] = refl
 values-mode kept (v ∷ vs) = values-mode (afterValue kept v) vs ∙ same-mode kept v
 
+-- what is sent depends on the mode alone, so a tail is spelled behind the values as it is before them
+module _ (k kept : Remembered) (e : k .mode ≡ kept .mode) where
+  same-sent : (w : List ℕ) → sent k w ≡ sent kept w
+  unfolding sent
+  same-sent w = ap (λ (m : DelMode). sentIn m w) e
+
+  same-entry : (n : Entry) (v : ℤ) → spellEntry n k v ≡ spellEntry n kept v
+  unfolding spellEntry
+  same-entry AnInteger v = same-sent (spell v)
+  same-entry ACharacter v = same-sent (natAbs v ∷ [])
+
+  same-entries : (n : Entry) (vs : List ℤ) → spellEntries n k vs ≡ spellEntries n kept vs
+  unfolding spellEntries
+  same-entries n [] = refl
+  same-entries n (v ∷ vs) =
+      ap (λ (w : List ℕ). w ++ spellEntries n k vs) (same-entry n v) ∙ ap (λ (w : List ℕ). spellEntry n kept v ++ w) (same-entries n vs)
+
+  same-tail : (t : Tailed) (es : List ℤ) → spellTail k t es ≡ spellTail kept t es
+  unfolding spellTail
+  same-tail noList es = refl
+  same-tail (listOf n) es =
+      ap (λ (w : List ℕ). w ++ spellEntries n k es) (same-sent (spell (pos (length es))))
+      ∙ ap (λ (w : List ℕ). sent kept (spell (pos (length es))) ++ w) (same-entries n es)
+
+pub tail-kept : (kept : Remembered) (vs : List Value) (t : Tailed) (es : List ℤ) → spellTail (afterValues kept vs) t es ≡ spellTail kept t es
+tail-kept kept vs t es = same-tail (afterValues kept vs) kept (values-mode kept vs) t es
+
 values-short : (kept : Remembered) (vs : List Value) → kept .mode ≡ Data → length (spellValues kept vs) ≤ 6 * length vs
 unfolding spellValues
 values-short kept [] e = omega arith

@@ -208,7 +208,8 @@ fn pour_command(kept: Remembered, command: Command, list: &[i32], out: &mut [u8]
     store_head(command.first, command.second, out);
     let n = pour_values(kept, parameters, out, 3);
     let next = 3 + n;
-    let m = pour_tail(values_left(kept, parameters), parameters, list, out, next);
+    // the values leave the mode, and a tail is spelled by the mode alone
+    let m = pour_tail(kept, parameters, list, out, next);
     next + m
 }
 

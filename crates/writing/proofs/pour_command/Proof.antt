@@ -13,9 +13,6 @@ pour-values-requires c κs = ((search (needs, command-inside), search (needs, co
 add-next : tie.Need-add-next
 add-next c = search needs
 
-values-left-requires : tie.Need-values-left-requires
-values-left-requires c κs = search needs
-
 pour-tail-requires : tie.Need-pour-tail-requires
 pour-tail-requires c κs = search (needs, command-tail)
 
@@ -35,7 +32,6 @@ pour-command-spec =
     store-head-requires
     pour-values-requires
     add-next
-    values-left-requires
     pour-tail-requires
     add-result
     same-length
