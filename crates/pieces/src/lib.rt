@@ -1,5 +1,5 @@
 // The pieces of a macro's body: what expanding needs to know of each item, and no more. The entries of an array or a string are not
-// asked for, so that no list is made.
+// asked for, so that no list is lent for them.
 ghost use mathlib.Core.Path.{_≡_};
 ghost use Rattle.ranges.specs.Ranges.{mostEntries};
 ghost use Rattle.parameters.specs.Shapes.{valuesOf};
