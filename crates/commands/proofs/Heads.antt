@@ -29,6 +29,7 @@ use Rattle.parameters.specs.Shapes.{shapeOf, valuesOf}
 use Rattle.parameters.specs.Behind.{afterValues}
 use Rattle.parameters.specs.Looking.{Parsed, parametersAt, parsedAs, lookOf, afterLook}
 use Rattle.parameters.proofs.Kept.{parsed-kept}
+use Rattle.parameters.proofs.Counted.{parsed-few}
 use Rattle.commands.specs.declared.CommandRead.{CommandRead}
 use Rattle.commands.specs.declared.CommandRead.the-variants.{Whole}
 use Rattle.commands.specs.declared.TakenLetters.{TakenLetters}
@@ -101,6 +102,13 @@ module _ (kept : Remembered) (l : Letters) (s : List ℕ) (start room : ℕ) {r 
         let e : parametersAt kept (shapeOf (l .kind)) s (l .next) ≡ done (parsedAs (t .parameters) (t .run) (t .next) (t .kept)) = sym er ∙ rw g in
         parsed-kept kept (shapeOf (l .kind)) s (l .next) e
 
+    -- and they have no more entries than any command
+    few : t .run .count ≤ 256
+    unfolding lookOf
+    few =
+        let e : parametersAt kept (shapeOf (l .kind)) s (l .next) ≡ done (parsedAs (t .parameters) (t .run) (t .next) (t .kept)) = sym er ∙ rw g in
+        parsed-few kept (shapeOf (l .kind)) s (l .next) e
+
     pub body-whole : {w : TakenCommand} → t .run .count ≤ room → w ≡ commandOfLetters (l .first) (l .second) t → commandOf (Whole w) ≡ told (bodyAt kept l s start room)
     unfolding bodyAt told commandOf commandOfLetters lookOf
     body-whole h e = rw (e, ← er, g, le-leb (t .run .count) room h, left-so)
@@ -153,3 +161,21 @@ module _ (kept : Remembered) (s : List ℕ) (start room : ℕ) where
       pub entries-are : (es : List ℤ) {o : List ℤ} → o ≡ afterEntries (bodyAt kept (lettersOf l) s start room) es → o ≡ afterEntries (commandAt kept s start room) es
       unfolding commandAt headOf
       entries-are es j = rw (lt-ltb start (length s) h, ← there, g) j
+
+-- ---- in room for the most entries
+
+pub skim-whole : (kept : Remembered) (l : Letters) (s : List ℕ) {r : ParametersRead} → lookOf r ≡ parametersAt kept (shapeOf (l .kind)) s (l .next) → {t : TakenParameters} → r ≡ ParametersRead.Whole t → {w : TakenCommand} → w ≡ commandOfLetters (l .first) (l .second) t → commandOf (Whole w) ≡ told (bodyAt kept l s 0 256)
+skim-whole kept l s er g e = body-whole kept l s 0 256 er g (few kept l s 0 256 er g) e
+
+-- 7 does not come, so that the start does not matter
+no-seven : (kept : Remembered) (h : Letters) (s : List ℕ) (a b : ℕ) (q : Answer Parsed) → ((p : Parsed) → q ≡ done p → p .count ≤ 256) → then q (λ p. pick (leb (p .count) 256) (done (meaning kept h s p)) (refused 7 a)) ≡ then q (λ p. pick (leb (p .count) 256) (done (meaning kept h s p)) (refused 7 b))
+no-seven kept h s a b (done p) f = rw (le-leb (p .count) 256 (f p refl))
+no-seven kept h s a b (refused e p) f = refl
+
+from-any : (kept : Remembered) (h : Letters) (s : List ℕ) (a b : ℕ) → bodyAt kept h s a 256 ≡ bodyAt kept h s b 256
+unfolding bodyAt
+from-any kept h s a b =
+    no-seven kept h s a b (parametersAt kept (shapeOf (h .kind)) s (h .next)) (λ p e. parsed-few kept (shapeOf (h .kind)) s (h .next) e)
+
+pub skim-is : (kept : Remembered) (s : List ℕ) (start : ℕ) {m : DelMode} (r : HeadRead) → start < length s → m ≡ kept .mode → headOf r ≡ headAt m s (start + 1) → {l : TakenLetters} → r ≡ Head l → {q : Answer ToldCommand} → q ≡ told (bodyAt kept (lettersOf l) s 0 256) → q ≡ told (commandAt kept s start 256)
+skim-is kept s start r h em er {l} g j = command-is kept s start 256 r h em er g (j ∙ ap told (from-any kept (lettersOf l) s 0 start))

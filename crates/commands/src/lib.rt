@@ -2,6 +2,7 @@
 ghost use mathlib.Core.Path.{_≡_};
 ghost use lib.ListN.{length};
 ghost use Rattle.wire.specs.Taking.{byteOf};
+ghost use Rattle.ranges.specs.Ranges.{mostEntries};
 ghost use Rattle.parameters.specs.Shapes.{valuesOf};
 ghost use Rattle.commands.specs.Behind.{leading, isIgnoreDeletes, modeBy, afterLetters};
 ghost use Rattle.commands.specs.Reading.{letterAt, lettersOf, headOf, secondAt, headAt, commandOfLetters, bodyAt, commandOf, commandAt, told, afterEntries};
@@ -236,6 +237,37 @@ pub fn read_command(kept: Remembered, s: &[u8], start: usize, list: &mut [i32]) 
     let from = start + 1;
     match head(mode, s, from) {
         HeadRead::Head(letters) => body(kept, letters, s, start, list),
+        HeadRead::Refused(e, p) => CommandRead::Refused(e, p),
+    }
+}
+
+// ---- the same where the entries are of no interest: none is handed over and none lacks room
+
+// A command has at most 256 entries, so that in this room 7 does not come, and the start, which would be its place, is not asked for.
+fn skim_body(kept: Remembered, letters: TakenLetters, s: &[u8]) -> CommandRead
+    ensures { λ r. ⌜ commandOf r ≡ told (bodyAt kept (lettersOf letters) (now (s .entry)) 0 mostEntries) ⌝ }
+{
+    let kind = letters.kind;
+    let first = letters.first;
+    let second = letters.second;
+    let mut none = [0; 1];
+    match parameters::look_at(kept, kind, s, letters.next, &mut none[..0]) {
+        ParametersRead::Whole(taken) => CommandRead::Whole(with_letters(first, second, taken)),
+        ParametersRead::Refused(e, p) => CommandRead::Refused(e, p),
+    }
+}
+
+// The command whose ESC is at `start`, or its refusal and place, as `read_command` gives them in room for the most entries.
+pub fn skim_command(kept: Remembered, s: &[u8], start: usize) -> CommandRead
+    ensures { λ r. ⌜ commandOf r ≡ told (commandAt kept (now (s .entry)) start mostEntries) ⌝ }
+{
+    if start >= s.len() {
+        return CommandRead::Refused(Refusal::BytesEnd, s.len());
+    }
+    let mode = kept.mode;
+    let from = start + 1;
+    match head(mode, s, from) {
+        HeadRead::Head(letters) => skim_body(kept, letters, s),
         HeadRead::Refused(e, p) => CommandRead::Refused(e, p),
     }
 }

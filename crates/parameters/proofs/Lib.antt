@@ -3,3 +3,4 @@ pub mod Looks
 pub mod Coinciding
 pub mod Numbered
 pub mod Kept
+pub mod Counted

@@ -1,4 +1,4 @@
--- A piece, by what the item's reader gave.
+-- A piece, by what the command's reader gave and by the tests as the code leaves them.
 use Prim.Native.Nat.{ℕ, _+_, _^_, _≤_, _<_}
 use mathlib.Core.Path.{_≡_, refl, sym, _∙_, ap}
 use mathlib.Core.Bool.{Bool, true, false, not, _&&_}
@@ -14,19 +14,18 @@ use mir.Facts.{toZ-ofZ}
 use Rattle.memory.specs.declared.Remembered.{Remembered}
 use Rattle.memory.specs.Memory.{inside}
 use Rattle.refusals.specs.declared.Refusal.{Refusal}
+use Rattle.refusals.specs.Answers.{Answer, done, refused}
 use Rattle.refusals.proofs.Cases.{by-pick, and-left, and-right}
 use Rattle.parameters.specs.Shapes.{Value, valuesOf}
 use Rattle.commands.specs.declared.TakenCommand.{TakenCommand}
+use Rattle.commands.specs.declared.CommandRead.{CommandRead}
+use Rattle.commands.specs.declared.CommandRead.the-variants.{Whole}
 use Rattle.commands.specs.Behind.{leading}
-use Rattle.stream.specs.declared.TextItem.{TextItem}
-use Rattle.stream.specs.declared.DelItem.{DelItem}
-use Rattle.stream.specs.declared.RefusedItem.{RefusedItem}
-use Rattle.stream.specs.declared.Item.{Item}
-use Rattle.stream.specs.declared.Item.the-variants.{Nothing, Text, Del}
-use Rattle.stream.specs.Items.{isFiller, itemOf, itemAt, toldItem}
+use Rattle.commands.specs.Reading.{Meaning, ToldCommand, told, commandOf, commandAt}
+use Rattle.stream.specs.Items.{isFiller, asItem, commandItem, itemAt, toldItem}
 use Rattle.pieces.specs.declared.Piece.{Piece}
 use Rattle.pieces.specs.declared.Piece.the-variants.{End, Copied, Called}
-use Rattle.pieces.specs.Pieces.{Pieced, copied, isCall, commandPiece, itemPiece, pieceAt, pieceOf, isByte}
+use Rattle.pieces.specs.Pieces.{Pieced, copied, trouble, isCall, commandPiece, itemPiece, pieceAt, pieceOf, isByte}
 
 -- ---- a command
 
@@ -39,38 +38,28 @@ module _ (first second : ℕ) (values : List Value) (next : ℕ) (after : Rememb
   unfolding pieceOf commandPiece
   is-copied t = rw (← eb, t)
 
--- ---- an item
+-- what was read of a command, or its refusal
+answerPiece : Answer ToldCommand → Pieced
+answerPiece (done t) = commandPiece (t .first) (t .second) (t .values) (t .next) (t .kept)
+answerPiece (refused e p) = trouble 17
 
-module _ (kept : Remembered) (s : List ℕ) (start : ℕ) {r : Item} (er : itemOf r ≡ toldItem (itemAt kept s start 256)) where
-  said : {q : Item} → r ≡ q → itemPiece kept (itemOf q) ≡ pieceAt kept s start
-  unfolding pieceAt
-  said e = ap (itemPiece kept) (sym (ap itemOf e) ∙ er)
+as-told : (kept : Remembered) (s : List ℕ) (a : Answer Meaning) → answerPiece (told a) ≡ itemPiece kept (toldItem (asItem kept s a))
+unfolding answerPiece told itemPiece toldItem
+as-told kept s (done m) = refl
+as-told kept s (refused e p) = by-pick (λ i. trouble 17 ≡ itemPiece kept (toldItem i)) (eqb e 7) _ _ (λ u. refl) (λ u. refl)
 
-  pub none-left : r ≡ Nothing → pieceOf End ≡ pieceAt kept s start
-  unfolding pieceOf itemPiece itemOf
-  none-left e = said e
+module _ (kept : Remembered) (s : List ℕ) (start : ℕ) {r : CommandRead} (er : commandOf r ≡ told (commandAt kept s start 256)) where
+  said : {q : CommandRead} → r ≡ q → answerPiece (commandOf q) ≡ itemPiece kept (toldItem (commandItem kept s start 256))
+  unfolding commandItem
+  said e = ap answerPiece (sym (ap commandOf e) ∙ er) ∙ as-told kept s (commandAt kept s start 256)
 
-  pub text-copied : {t : TextItem} → r ≡ Text t → pieceOf (Copied (t .next) kept) ≡ pieceAt kept s start
-  unfolding pieceOf itemPiece itemOf
-  text-copied e = said e
-
-  pub del-copied : {d : DelItem} → r ≡ Del d → pieceOf (Copied (d .next) kept) ≡ pieceAt kept s start
-  unfolding pieceOf itemPiece itemOf
-  del-copied e = said e
-
-  pub command-told : {t : TakenCommand} (p : Piece) → r ≡ Item.Command t → pieceOf p ≡ commandPiece (t .command .first) (t .command .second) (valuesOf (t .command .parameters)) (t .next) (t .kept) → pieceOf p ≡ pieceAt kept s start
-  unfolding pieceOf itemPiece itemOf
+  pub command-told : {t : TakenCommand} (p : Piece) → r ≡ Whole t → pieceOf p ≡ commandPiece (t .command .first) (t .command .second) (valuesOf (t .command .parameters)) (t .next) (t .kept) → pieceOf p ≡ itemPiece kept (toldItem (commandItem kept s start 256))
+  unfolding answerPiece commandOf
   command-told p e j = j ∙ said e
 
-  pub refused-command : {i : RefusedItem} → r ≡ Item.RefusedCommand i → pieceOf Piece.Refused ≡ pieceAt kept s start
-  unfolding pieceOf itemPiece itemOf
-  refused-command e = said e
-
-  pub refused-call : {x : Refusal} {p : ℕ} → r ≡ Item.Refused x p → pieceOf Piece.Refused ≡ pieceAt kept s start
-  unfolding pieceOf itemPiece itemOf
-  refused-call e = said e
-
-pub ruleset readings = (none-left, text-copied, del-copied, command-told, refused-command, refused-call)
+  pub command-refused : {x : Refusal} {p : ℕ} → r ≡ CommandRead.Refused x p → pieceOf Piece.Refused ≡ itemPiece kept (toldItem (commandItem kept s start 256))
+  unfolding pieceOf answerPiece commandOf
+  command-refused e = said e
 
 -- ---- a byte outside commands
 
@@ -108,3 +97,36 @@ module _ (kept : Remembered) (s : List ℕ) (start : ℕ) where
         (by-pick (λ i. copied (start + 1) kept ≡ itemPiece kept (toldItem i)) (isFiller (kept .mode) (getD s start 0)) _ _ (λ u. refl) (λ u. refl))
 
 pub ruleset texts = (at-the-end, an-escape, a-byte)
+
+-- ---- where no byte outside commands starts
+
+only-not : (b : Bool) → not b && true ≡ false → b ≡ true
+only-not true e = refl
+only-not false e = sym e
+
+is-escape : (kept : Remembered) (s : List ℕ) (start : ℕ) → start < length s → inside (kept .point) ≡ true → isByte kept s start ≡ false → eqb (getD s start 0) 27 ≡ true
+unfolding isByte
+is-escape kept s start h j e =
+    let z : not (eqb (getD s start 0) 27) && true ≡ false = rw (lt-ltb start (length s) h, j) at e in
+    only-not (eqb (getD s start 0) 27) z
+
+module _ (kept : Remembered) (s : List ℕ) (start : ℕ) where
+  pub past-piece : length s < start → pieceOf Piece.Refused ≡ pieceAt kept s start
+  unfolding pieceOf pieceAt itemPiece toldItem itemAt
+  past-piece h = rw (lt-ltb (length s) start h)
+
+  module _ (h : start ≤ length s) {b : Bool} (eb : b ≡ inside (kept .point)) where
+    pub outside-piece : b ≡ false → pieceOf Piece.Refused ≡ pieceAt kept s start
+    unfolding pieceOf pieceAt itemPiece toldItem itemAt
+    outside-piece t = rw (le-ltb (length s) start h, ← eb, t)
+
+    pub end-piece : b ≡ true → start ≡ length s → pieceOf End ≡ pieceAt kept s start
+    unfolding pieceOf pieceAt itemPiece toldItem itemAt
+    end-piece t e = rw (le-ltb (length s) start h, ← eb, t, le-ltb start (length s) (omega (arith, e)))
+
+    pub escape-piece : b ≡ true → (start ≡ length s → ⊥) → {c : Bool} → c ≡ isByte kept s start → c ≡ false → {q : Pieced} → q ≡ itemPiece kept (toldItem (commandItem kept s start 256)) → q ≡ pieceAt kept s start
+    unfolding pieceAt itemAt
+    escape-piece t n ec f j =
+        let l : start < length s = omega (arith, h, n) in
+        let x = is-escape kept s start l (sym eb ∙ t) (sym ec ∙ f) in
+        rw (le-ltb (length s) start h, ← eb, t, lt-ltb start (length s) l, x) j

@@ -1,11 +1,13 @@
-// The pieces of a macro's body: what expanding needs to know of each item, and no more. The list that an array or a string is read
-// into is lent here, so that it does not stand in the frames of an expansion.
+// The pieces of a macro's body: what expanding needs to know of each item, and no more. The entries of an array or a string are not
+// asked for, so that no list is lent for them.
 ghost use mathlib.Core.Path.{_≡_};
+ghost use Rattle.ranges.specs.Ranges.{mostEntries};
 ghost use Rattle.parameters.specs.Shapes.{valuesOf};
-ghost use Rattle.pieces.specs.Pieces.{isCall, commandPiece, isByte, pieceAt, pieceOf};
+ghost use Rattle.stream.specs.Items.{commandItem, toldItem};
+ghost use Rattle.pieces.specs.Pieces.{isCall, commandPiece, itemPiece, isByte, pieceAt, pieceOf};
+use commands::CommandRead;
 use commands::TakenCommand;
 use memory::Remembered;
-use stream::Item;
 
 pub enum Piece {
     // no item is left
@@ -42,18 +44,13 @@ fn command_piece(taken: TakenCommand) -> Piece
     Piece::Copied(next, after)
 }
 
-// The piece of a body that starts at `start`, by its item.
-fn piece_of_item(kept: Remembered, body: &[u8], start: usize) -> Piece
-    ensures { λ r. ⌜ pieceOf r ≡ pieceAt kept (now (body .entry)) start ⌝ }
+// The piece of the command whose ESC is at `start`.
+fn piece_at_escape(kept: Remembered, body: &[u8], start: usize) -> Piece
+    ensures { λ r. ⌜ pieceOf r ≡ itemPiece kept (toldItem (commandItem kept (now (body .entry)) start mostEntries)) ⌝ }
 {
-    let mut list = [0; 256];
-    match stream::read_item(kept, body, start, &mut list) {
-        Item::Nothing => Piece::End,
-        Item::Text(text) => Piece::Copied(text.next, kept),
-        Item::Del(del) => Piece::Copied(del.next, kept),
-        Item::Command(taken) => command_piece(taken),
-        Item::RefusedCommand(_) => Piece::Refused,
-        Item::Refused(_, _) => Piece::Refused,
+    match commands::skim_command(kept, body, start) {
+        CommandRead::Whole(taken) => command_piece(taken),
+        CommandRead::Refused(_, _) => Piece::Refused,
     }
 }
 
@@ -71,7 +68,7 @@ fn is_byte(kept: Remembered, body: &[u8], start: usize) -> bool
     memory::is_inside(point)
 }
 
-// The piece of a body that starts at `start`. No list is made for a byte outside commands.
+// The piece of a body that starts at `start`. Most are bytes outside commands, so that these are asked for first.
 pub fn piece_at(kept: Remembered, body: &[u8], start: usize) -> Piece
     ensures { λ r. ⌜ pieceOf r ≡ pieceAt kept (now (body .entry)) start ⌝ }
 {
@@ -79,5 +76,15 @@ pub fn piece_at(kept: Remembered, body: &[u8], start: usize) -> Piece
         let next = start + 1;
         return Piece::Copied(next, kept);
     }
-    piece_of_item(kept, body, start)
+    if start > body.len() {
+        return Piece::Refused;
+    }
+    let point = kept.point;
+    if memory::is_inside(point) {
+        if start == body.len() {
+            return Piece::End;
+        }
+        return piece_at_escape(kept, body, start);
+    }
+    Piece::Refused
 }
