@@ -1,3 +1,4 @@
+use Rattle.stream_calls.proofs.Shut.{opened}
 use Rattle.stream_calls.proofs.Writing.{known-writes, unknown-writes, behind-given}
 use borrow.Author.Needs.{needs}
 use Rattle.stream_calls.proofs.write_given.Statement.{statement}
@@ -31,7 +32,7 @@ returns : tie.Need-returns
 returns c = search (needs, known-writes)
 
 returns-2 : tie.Need-returns-2
-returns-2 c = search (needs, unknown-writes)
+returns-2 c = opened (search (needs, unknown-writes))
 
 pub write-given-spec : {M : Type 1} → statement M
 write-given-spec =
