@@ -26,7 +26,6 @@ use Rattle.stream.specs.declared.Item.{Item}
 use Rattle.stream.specs.declared.Item.the-variants.{Nothing, Text, Del}
 use Rattle.stream.specs.Items.{itemOf, itemAt, toldItem, afterItem}
 use Rattle.coordinates.specs.Remembering.{slotsOf, keptIn}
-use Rattle.stream_calls.proofs.Shut.{Shut, shut}
 use Rattle.stream_calls.specs.Slots.{itemNumber, kindSlot, commandFields, itemFields, itemValues, rememberedAfter, NextItem}
 
 -- ---- a command's kind
@@ -87,17 +86,16 @@ module _ (before : List ℕ) {i : Item} where
 
 -- ---- the exported call: read with the record that the three numbers stand for
 
-pub next-item : (before bytes : List ℕ) (start : ℕ) (list : List ℤ) {k : Remembered} {i : Item} {n : ℕ} {l last : List ℕ} {v es : List ℤ} → k ≡ keptIn before → itemOf i ≡ toldItem (itemAt k bytes start (length list)) → es ≡ afterItem (itemAt k bytes start (length list)) list → Hands before i n l v last → Shut (NextItem before bytes start list n l v last es)
+pub next-item : (before bytes : List ℕ) (start : ℕ) (list : List ℤ) {k : Remembered} {i : Item} {n : ℕ} {l last : List ℕ} {v es : List ℤ} → k ≡ keptIn before → itemOf i ≡ toldItem (itemAt k bytes start (length list)) → es ≡ afterItem (itemAt k bytes start (length list)) list → Hands before i n l v last → NextItem before bytes start list n l v last es
 next-item before bytes start list {i = i} ek e el h =
     let told : itemOf i ≡ toldItem (itemAt (keptIn before) bytes start (length list)) = e ∙ rw ek in
-    shut
-    (record {
+    record {
       answered = h .number-is ∙ ap itemNumber told;
       slots = h .fields-are ∙ ap itemFields told;
       numbers = h .values-are ∙ ap itemValues told;
       remembered = h .kept-is ∙ ap (rememberedAfter before) told;
       filled = el ∙ rw ek;
-    })
+    }
 
 -- ---- a command's slots, as the code numbers its kind
 

@@ -1,3 +1,2 @@
-pub mod Shut
 pub mod Items
 pub mod Writing

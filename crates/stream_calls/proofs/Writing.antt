@@ -36,7 +36,6 @@ use Rattle.commands.specs.Behind.{leading, afterLetters}
 use Rattle.writable.specs.Writable.{kindFor, kindNumber, isKind, isCommand}
 use Rattle.writing.specs.Writing.{spellCommand, writeFitting, writeCommand}
 use Rattle.coordinates.specs.Remembering.{slotsOf, keptIn}
-use Rattle.stream_calls.proofs.Shut.{Shut, shut}
 use Rattle.stream_calls.specs.Given.{ofKind, ofTabled, commandGiven, keptBehind, keptAfter, slotsAfter, Writes, WrittenCommand}
 use Rattle.stream_calls.specs.declared.Sent.{Sent}
 
@@ -177,9 +176,9 @@ module _ (kept : Remembered) (first second : ℕ) (vs es : List ℤ) (room : ℕ
     unfolding commandGiven isCommand isKind foundOf writeIf
     none = rw (sym ef, g)
 
-    pub unknown-writes : (out : List ℕ) → Shut (Writes kept (commandGiven first second vs) es out (writeCommand kept (commandGiven first second vs) es room) (record { answer = Written.Refused NotValid; kept = kept }) out)
+    pub unknown-writes : (out : List ℕ) → Writes kept (commandGiven first second vs) es out (writeCommand kept (commandGiven first second vs) es room) (record { answer = Written.Refused NotValid; kept = kept }) out
     unfolding writtenOf keptAfter valueOr afterWrite
-    unknown-writes out = shut (record { answered = none; remembered = rw (sym none); stands = rw (sym none) })
+    unknown-writes out = record { answered = none; remembered = rw (sym none); stands = rw (sym none) }
 
 -- ---- what is remembered behind a writing
 
@@ -224,8 +223,8 @@ module _ (before : List ℕ) {k : Remembered} (ek : k ≡ keptIn before) (c : Co
   unfolding slotsAfter writtenOf valueOr
   slots-same g = rw (← said, g)
 
-  pub command-written : {n : ℕ} → s .answer ≡ Next n → {last : List ℕ} → last ≡ slotsOf (s .kept) → Shut (WrittenCommand before c es out 0 n last left)
-  command-written g el = shut (record { answered = written-done said g; counted = written-next said g; remembered = slots-moved g el; stands = out-so })
+  pub command-written : {n : ℕ} → s .answer ≡ Next n → {last : List ℕ} → last ≡ slotsOf (s .kept) → WrittenCommand before c es out 0 n last left
+  command-written g el = record { answered = written-done said g; counted = written-next said g; remembered = slots-moved g el; stands = out-so }
 
-  pub command-refused : {f : Refusal} {n : ℕ} → s .answer ≡ Written.Refused f → n ≡ numberOf f → Shut (WrittenCommand before c es out n 0 before left)
-  command-refused g j = shut (record { answered = written-refused said g j; counted = written-none said g; remembered = slots-same g; stands = out-so })
+  pub command-refused : {f : Refusal} {n : ℕ} → s .answer ≡ Written.Refused f → n ≡ numberOf f → WrittenCommand before c es out n 0 before left
+  command-refused g j = record { answered = written-refused said g j; counted = written-none said g; remembered = slots-same g; stands = out-so }
