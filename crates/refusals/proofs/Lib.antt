@@ -4,3 +4,4 @@ pub mod Cases
 pub mod Coinciding
 pub mod Many
 pub mod Passing
+pub mod Shut

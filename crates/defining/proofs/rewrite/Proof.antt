@@ -1,3 +1,4 @@
+use Rattle.refusals.proofs.Shut.{opened, closed}
 use Rattle.defining.proofs.Placing.{placings}
 use borrow.Author.Needs.{needs}
 use Rattle.defining.proofs.rewrite.Statement.{statement}
@@ -16,7 +17,7 @@ sub-if1 : tie.Need-sub-if1
 sub-if1 c = search needs
 
 returns : tie.Need-returns
-returns c = search (needs, placings)
+returns c = opened (search (closed, needs, placings))
 
 add-new : tie.Need-add-new
 add-new c = search needs
@@ -37,7 +38,7 @@ same-length : tie.Need-same-length
 same-length c = search needs
 
 returns-2 : tie.Need-returns-2
-returns-2 c = search (needs, placings)
+returns-2 c = opened (search (closed, needs, placings))
 
 pub rewrite-spec : {M : Type 1} → statement M
 rewrite-spec =

@@ -1,3 +1,4 @@
+use Rattle.refusals.proofs.Shut.{opened, closed}
 use borrow.Author.Needs.{needs}
 use lib.ListN.{length}
 use Rattle.expansion.proofs.Walking.{Walking, walking-none, same-long, same-ran, walked-end, piece-refused, walked-refused, copied-from, copied-to, copied-less, copied-counts, walking-copied, called-less, called-roomy, walking-called}
@@ -54,16 +55,16 @@ pub +enter+walk-spec : {M : Type 1} → statement M
     (enter-at t)
     enter.Post
     (λ c κs. search needs)
-    (λ c. search (needs, enter-negative))
-    (λ c. search (needs, enter-deep))
+    (λ c. opened (search (closed, needs, enter-negative)))
+    (λ c. opened (search (closed, needs, enter-deep)))
     (λ c κs. search needs)
-    (λ c. search (needs, enter-absent))
-    (λ c. search (needs, enter-full))
+    (λ c. opened (search (closed, needs, enter-absent)))
+    (λ c. opened (search (closed, needs, enter-full)))
     (λ c. search needs)
     (λ c. search needs)
     (λ c κs. search (needs, enter-roomy))
     (λ c. search needs)
-    (λ c. search (needs, enter-in)))
+    (λ c. opened (search (closed, needs, enter-in))))
     λ t. walk-lts.spec (
       piece-at-reads.Asked,
       piece-at-reads.Learnt,

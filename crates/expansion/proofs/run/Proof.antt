@@ -1,3 +1,4 @@
+use Rattle.refusals.proofs.Shut.{opened, closed}
 use Rattle.expansion.proofs.Answering.{ran-start}
 use borrow.Author.Needs.{needs}
 use Rattle.expansion.proofs.run.Statement.{statement}
@@ -10,7 +11,7 @@ same-length : tie.Need-same-length
 same-length c = search needs
 
 returns : tie.Need-returns
-returns c = search (needs, ran-start)
+returns c = opened (search (closed, needs, ran-start))
 
 pub run-spec : {M : Type 1} → statement M
 run-spec = tie.close (tie.spec enter-requires same-length returns)

@@ -1,3 +1,4 @@
+use Rattle.refusals.proofs.Shut.{opened, closed}
 use Rattle.lines.proofs.Lined.{items}
 use borrow.Author.Needs.{needs}
 use Rattle.lines.proofs.put_line.Statement.{statement}
@@ -40,34 +41,34 @@ enum-told-3 : tie.Need-enum-told-3
 enum-told-3 c = search needs
 
 returns : tie.Need-returns
-returns c = search (needs, items)
+returns c = opened (search (closed, needs, items))
 
 same-length : tie.Need-same-length
 same-length c = search needs
 
 returns-2 : tie.Need-returns-2
-returns-2 c = search (needs, items)
+returns-2 c = opened (search (closed, needs, items))
 
 same-length-2 : tie.Need-same-length-2
 same-length-2 c = search needs
 
 returns-3 : tie.Need-returns-3
-returns-3 c = search (needs, items)
+returns-3 c = opened (search (closed, needs, items))
 
 same-length-3 : tie.Need-same-length-3
 same-length-3 c = search needs
 
 returns-4 : tie.Need-returns-4
-returns-4 c = search (needs, items)
+returns-4 c = opened (search (closed, needs, items))
 
 same-length-4 : tie.Need-same-length-4
 same-length-4 c = search needs
 
 returns-5 : tie.Need-returns-5
-returns-5 c = search (needs, items)
+returns-5 c = opened (search (closed, needs, items))
 
 returns-6 : tie.Need-returns-6
-returns-6 c = search (needs, items)
+returns-6 c = opened (search (closed, needs, items))
 
 pub put-line-spec : {M : Type 1} → statement M
 put-line-spec =

@@ -1,3 +1,4 @@
+use Rattle.refusals.proofs.Shut.{opened, closed}
 use Rattle.listing.proofs.Listings.{kepts}
 use borrow.Author.Needs.{needs}
 use Rattle.listing.proofs.next_kept.Statement.{statement}
@@ -22,22 +23,22 @@ enum-told-4 : tie.Need-enum-told-4
 enum-told-4 c = search needs
 
 returns : tie.Need-returns
-returns c = search (needs, kepts)
+returns c = opened (search (closed, needs, kepts))
 
 returns-2 : tie.Need-returns-2
-returns-2 c = search (needs, kepts)
+returns-2 c = opened (search (closed, needs, kepts))
 
 returns-3 : tie.Need-returns-3
-returns-3 c = search (needs, kepts)
+returns-3 c = opened (search (closed, needs, kepts))
 
 returns-4 : tie.Need-returns-4
-returns-4 c = search (needs, kepts)
+returns-4 c = opened (search (closed, needs, kepts))
 
 returns-5 : tie.Need-returns-5
-returns-5 c = search (needs, kepts)
+returns-5 c = opened (search (closed, needs, kepts))
 
 returns-6 : tie.Need-returns-6
-returns-6 c = search (needs, kepts)
+returns-6 c = opened (search (closed, needs, kepts))
 
 pub next-kept-spec : {M : Type 1} → statement M
 next-kept-spec =

@@ -1,3 +1,4 @@
+use Rattle.refusals.proofs.Shut.{opened, closed}
 use Rattle.listing.proofs.Listings.{listing-poured}
 use borrow.Author.Needs.{needs}
 use Rattle.listing.proofs.put_listing.Statement.{statement}
@@ -13,7 +14,7 @@ same-length : tie.Need-same-length
 same-length c = search needs
 
 returns : tie.Need-returns
-returns c = search listing-poured
+returns c = opened (search (closed, listing-poured))
 
 pub put-listing-spec : {M : Type 1} → statement M
 put-listing-spec = tie.close (tie.spec put-lines-requires put-last-requires same-length returns)

@@ -1,3 +1,4 @@
+use Rattle.refusals.proofs.Shut.{opened, closed}
 use Rattle.macro_calls.proofs.Answers.{define-done, define-refused, store-so}
 use borrow.Author.Needs.{needs}
 use Rattle.macro_calls.proofs.ardh_define.Statement.{statement}
@@ -19,13 +20,13 @@ same-length : tie.Need-same-length
 same-length c = search needs
 
 returns : tie.Need-returns
-returns c = (search (needs, define-done), search (needs, store-so))
+returns c = (opened (search (closed, needs, define-done)), opened (search (closed, needs, store-so)))
 
 same-length-2 : tie.Need-same-length-2
 same-length-2 c = search needs
 
 returns-2 : tie.Need-returns-2
-returns-2 c = (search (needs, define-refused), search (needs, store-so))
+returns-2 c = (opened (search (closed, needs, define-refused)), opened (search (closed, needs, store-so)))
 
 pub ardh-define-spec : {M : Type 1} → statement M
 ardh-define-spec =

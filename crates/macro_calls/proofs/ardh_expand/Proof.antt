@@ -1,3 +1,4 @@
+use Rattle.refusals.proofs.Shut.{opened, closed}
 use Rattle.macro_calls.proofs.Answers.{expanded, unexpanded}
 use borrow.Author.Needs.{needs}
 use Rattle.macro_calls.proofs.ardh_expand.Statement.{statement}
@@ -25,13 +26,13 @@ same-length : tie.Need-same-length
 same-length c = search needs
 
 returns : tie.Need-returns
-returns c = search (needs, expanded)
+returns c = opened (search (closed, needs, expanded))
 
 same-length-2 : tie.Need-same-length-2
 same-length-2 c = search needs
 
 returns-2 : tie.Need-returns-2
-returns-2 c = search (needs, unexpanded)
+returns-2 c = opened (search (closed, needs, unexpanded))
 
 pub ardh-expand-spec : {M : Type 1} → statement M
 ardh-expand-spec =

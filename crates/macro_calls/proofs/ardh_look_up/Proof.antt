@@ -1,3 +1,4 @@
+use Rattle.refusals.proofs.Shut.{opened, closed}
 use Rattle.macro_calls.proofs.Answers.{volatile-number, volatile-fields, saved-number, saved-fields, unplaced-number, unplaced-fields}
 use borrow.Author.Needs.{needs}
 use Rattle.macro_calls.proofs.ardh_look_up.Statement.{statement}
@@ -19,13 +20,13 @@ number-requires : tie.Need-number-requires
 number-requires c κs = search needs
 
 returns : tie.Need-returns
-returns c = (search (needs, volatile-number), search (needs, volatile-fields))
+returns c = (opened (search (closed, needs, volatile-number)), opened (search (closed, needs, volatile-fields)))
 
 returns-2 : tie.Need-returns-2
-returns-2 c = (search (needs, saved-number), search (needs, saved-fields))
+returns-2 c = (opened (search (closed, needs, saved-number)), opened (search (closed, needs, saved-fields)))
 
 returns-3 : tie.Need-returns-3
-returns-3 c = (search (needs, unplaced-number), search (needs, unplaced-fields))
+returns-3 c = (opened (search (closed, needs, unplaced-number)), opened (search (closed, needs, unplaced-fields)))
 
 pub ardh-look-up-spec : {M : Type 1} → statement M
 ardh-look-up-spec =

@@ -1,3 +1,4 @@
+use Rattle.refusals.proofs.Shut.{opened, closed}
 use Rattle.numbers.proofs.Reading.{low-step, third-step, no-step}
 use borrow.Author.Needs.{needs}
 use Rattle.numbers.proofs.after_two.Statement.{statement}
@@ -13,16 +14,16 @@ low-byte-requires : tie.Need-low-byte-requires
 low-byte-requires c κs = search needs
 
 returns : tie.Need-returns
-returns c = search (needs, low-step)
+returns c = opened (search (closed, needs, low-step))
 
 enum-known-e : tie.Need-enum-known-e
 enum-known-e c = search needs
 
 returns-2 : tie.Need-returns-2
-returns-2 c = search (needs, third-step)
+returns-2 c = opened (search (closed, needs, third-step))
 
 returns-3 : tie.Need-returns-3
-returns-3 c = search (needs, no-step)
+returns-3 c = opened (search (closed, needs, no-step))
 
 pub after-two-spec : {M : Type 1} → statement M
 after-two-spec =

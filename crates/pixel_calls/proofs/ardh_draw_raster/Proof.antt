@@ -1,3 +1,4 @@
+use Rattle.refusals.proofs.Shut.{opened, closed}
 use Rattle.pixel_calls.proofs.Answers.{written-so, raster-given, raster-laid}
 use borrow.Author.Needs.{needs}
 use Rattle.pixel_calls.proofs.ardh_draw_raster.Statement.{statement}
@@ -16,7 +17,7 @@ same-length : tie.Need-same-length
 same-length c = search needs
 
 returns : tie.Need-returns
-returns c = (search (needs, written-so, raster-given), search (needs, raster-laid))
+returns c = (opened (search (closed, needs, written-so, raster-given)), opened (search (closed, needs, raster-laid)))
 
 pub ardh-draw-raster-spec : {M : Type 1} → statement M
 ardh-draw-raster-spec =

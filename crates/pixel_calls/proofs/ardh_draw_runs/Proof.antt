@@ -1,3 +1,4 @@
+use Rattle.refusals.proofs.Shut.{opened, closed}
 use Rattle.pixel_calls.proofs.Answers.{written-so, runs-given, runs-laid}
 use borrow.Author.Needs.{needs}
 use Rattle.pixel_calls.proofs.ardh_draw_runs.Statement.{statement}
@@ -16,7 +17,7 @@ same-length : tie.Need-same-length
 same-length c = search needs
 
 returns : tie.Need-returns
-returns c = (search (needs, written-so, runs-given), search (needs, runs-laid))
+returns c = (opened (search (closed, needs, written-so, runs-given)), opened (search (closed, needs, runs-laid)))
 
 pub ardh-draw-runs-spec : {M : Type 1} → statement M
 ardh-draw-runs-spec =

@@ -1,3 +1,4 @@
+use Rattle.refusals.proofs.Shut.{opened, closed}
 use Rattle.pixel_calls.proofs.Answers.{settled-so, bits-given}
 use borrow.Author.Needs.{needs}
 use Rattle.pixel_calls.proofs.ardh_set_bits.Statement.{statement}
@@ -13,7 +14,7 @@ of-setting-requires : tie.Need-of-setting-requires
 of-setting-requires c κs = search needs
 
 returns : tie.Need-returns
-returns c = search (needs, settled-so, bits-given)
+returns c = opened (search (closed, needs, settled-so, bits-given))
 
 pub ardh-set-bits-spec : {M : Type 1} → statement M
 ardh-set-bits-spec =

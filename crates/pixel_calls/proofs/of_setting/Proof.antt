@@ -1,3 +1,4 @@
+use Rattle.refusals.proofs.Shut.{opened, closed}
 use Rattle.pixel_calls.proofs.Answers.{when-set, when-not-set}
 use borrow.Author.Needs.{needs}
 use Rattle.pixel_calls.proofs.of_setting.Statement.{statement}
@@ -19,10 +20,10 @@ fields-of-requires-2 : tie.Need-fields-of-requires-2
 fields-of-requires-2 c κs = search needs
 
 returns : tie.Need-returns
-returns c = search (needs, when-set)
+returns c = opened (search (closed, needs, when-set))
 
 returns-2 : tie.Need-returns-2
-returns-2 c = search (needs, when-not-set)
+returns-2 c = opened (search (closed, needs, when-not-set))
 
 pub of-setting-spec : {M : Type 1} → statement M
 of-setting-spec =

@@ -1,3 +1,4 @@
+use Rattle.refusals.proofs.Shut.{opened, closed}
 use Rattle.report_calls.proofs.Slots.{integer-read, no-integer}
 use borrow.Author.Needs.{needs}
 use Rattle.report_calls.proofs.ardh_read_integer_report.Statement.{statement}
@@ -16,10 +17,10 @@ number-requires : tie.Need-number-requires
 number-requires c κs = search needs
 
 returns : tie.Need-returns
-returns c = search (needs, integer-read)
+returns c = opened (search (closed, needs, integer-read))
 
 returns-2 : tie.Need-returns-2
-returns-2 c = search (needs, no-integer)
+returns-2 c = opened (search (closed, needs, no-integer))
 
 pub ardh-read-integer-report-spec : {M : Type 1} → statement M
 ardh-read-integer-report-spec =

@@ -1,3 +1,4 @@
+use Rattle.refusals.proofs.Shut.{opened, closed}
 use Rattle.report_calls.proofs.Slots.{string-done, string-count, string-next, string-refused, string-none, string-place, string-list}
 use borrow.Author.Needs.{needs}
 use Rattle.report_calls.proofs.ardh_read_string_report.Statement.{statement}
@@ -19,13 +20,13 @@ same-length : tie.Need-same-length
 same-length c = search needs
 
 returns : tie.Need-returns
-returns c = (search (needs, string-done, string-count, string-next), search (needs, string-list))
+returns c = (opened (search (closed, needs, string-done, string-count, string-next)), opened (search (closed, needs, string-list)))
 
 same-length-2 : tie.Need-same-length-2
 same-length-2 c = search needs
 
 returns-2 : tie.Need-returns-2
-returns-2 c = (search (needs, string-refused, string-none, string-place), search (needs, string-list))
+returns-2 c = (opened (search (closed, needs, string-refused, string-none, string-place)), opened (search (closed, needs, string-list)))
 
 pub ardh-read-string-report-spec : {M : Type 1} → statement M
 ardh-read-string-report-spec =

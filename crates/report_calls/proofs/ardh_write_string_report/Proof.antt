@@ -1,3 +1,4 @@
+use Rattle.refusals.proofs.Shut.{opened, closed}
 use Rattle.wire.proofs.Handing.{written-done, written-next, written-refused, written-none, written-out}
 use borrow.Author.Needs.{needs}
 use Rattle.report_calls.proofs.ardh_write_string_report.Statement.{statement}
@@ -19,13 +20,13 @@ same-length : tie.Need-same-length
 same-length c = search needs
 
 returns : tie.Need-returns
-returns c = (search (needs, written-done, written-next), search (needs, written-out))
+returns c = (opened (search (closed, needs, written-done, written-next)), opened (search (closed, needs, written-out)))
 
 same-length-2 : tie.Need-same-length-2
 same-length-2 c = search needs
 
 returns-2 : tie.Need-returns-2
-returns-2 c = (search (needs, written-refused, written-none), search (needs, written-out))
+returns-2 c = (opened (search (closed, needs, written-refused, written-none)), opened (search (closed, needs, written-out)))
 
 pub ardh-write-string-report-spec : {M : Type 1} → statement M
 ardh-write-string-report-spec =

@@ -1,3 +1,4 @@
+use Rattle.refusals.proofs.Shut.{opened, closed}
 use Rattle.wire.proofs.Writings.{outside, accepted, standing, none-changed}
 use Rattle.reports.proofs.Writings.{not-report, a-report, report-spelled}
 use borrow.Author.Needs.{needs}
@@ -8,7 +9,7 @@ magnitude-requires : tie.Need-magnitude-requires
 magnitude-requires c κs = search needs
 
 returns : tie.Need-returns
-returns c = search (needs, outside, none-changed, not-report)
+returns c = opened (search (closed, needs, outside, none-changed, not-report))
 
 is-negative-requires : tie.Need-is-negative-requires
 is-negative-requires c κs = search needs
@@ -26,7 +27,7 @@ same-length : tie.Need-same-length
 same-length c = search needs
 
 returns-2 : tie.Need-returns-2
-returns-2 c = search (needs, accepted, standing, a-report, report-spelled)
+returns-2 c = opened (search (closed, needs, accepted, standing, a-report, report-spelled))
 
 pub write-integer-spec : {M : Type 1} → statement M
 write-integer-spec =

@@ -1,3 +1,4 @@
+use Rattle.refusals.proofs.Shut.{opened, closed}
 use Rattle.wire.proofs.Writings.{outside, none-changed, accepted}
 use Rattle.reports.proofs.Writings.{too-long, no-characters, a-string, all-characters}
 use borrow.Author.Needs.{needs}
@@ -5,7 +6,7 @@ use Rattle.reports.proofs.write_string.Statement.{statement}
 use Rattle.reports.proofs.write_string.Tie as tie
 
 returns : tie.Need-returns
-returns c = search (needs, outside, none-changed, too-long)
+returns c = opened (search (closed, needs, outside, none-changed, too-long))
 
 are-characters-requires : tie.Need-are-characters-requires
 are-characters-requires c κs = search needs
@@ -17,10 +18,10 @@ same-length : tie.Need-same-length
 same-length c = search needs
 
 returns-2 : tie.Need-returns-2
-returns-2 c = search (needs, accepted, a-string)
+returns-2 c = opened (search (closed, needs, accepted, a-string))
 
 returns-3 : tie.Need-returns-3
-returns-3 c = search (needs, outside, none-changed, no-characters)
+returns-3 c = opened (search (closed, needs, outside, none-changed, no-characters))
 
 pub write-string-spec : {M : Type 1} → statement M
 write-string-spec =

@@ -1,3 +1,4 @@
+use Rattle.refusals.proofs.Shut.{opened, closed}
 use Rattle.spelling.proofs.Pouring.{pourings}
 use borrow.Author.Needs.{needs}
 use Rattle.spelling.proofs.pour_magnitude.Statement.{statement}
@@ -13,7 +14,7 @@ same-length : tie.Need-same-length
 same-length c = search needs
 
 returns : tie.Need-returns
-returns c = search (needs, pourings)
+returns c = opened (search (closed, needs, pourings))
 
 cast-last : tie.Need-cast-last
 cast-last c = search needs
@@ -28,7 +29,7 @@ same-length-2 : tie.Need-same-length-2
 same-length-2 c = search needs
 
 returns-2 : tie.Need-returns-2
-returns-2 c = search (needs, pourings)
+returns-2 c = opened (search (closed, needs, pourings))
 
 cast-first : tie.Need-cast-first
 cast-first c = search needs
@@ -43,7 +44,7 @@ same-length-3 : tie.Need-same-length-3
 same-length-3 c = search needs
 
 returns-3 : tie.Need-returns-3
-returns-3 c = search (needs, pourings)
+returns-3 c = opened (search (closed, needs, pourings))
 
 pub pour-magnitude-spec : {M : Type 1} → statement M
 pour-magnitude-spec =

@@ -1,3 +1,4 @@
+use Rattle.refusals.proofs.Shut.{opened, closed}
 use Rattle.stream.proofs.Reading.{list-kept, item-whole, item-refused-call, item-refused-command}
 use borrow.Author.Needs.{needs}
 use Rattle.stream.proofs.command_item.Statement.{statement}
@@ -19,7 +20,7 @@ same-length : tie.Need-same-length
 same-length c = search needs
 
 returns : tie.Need-returns
-returns c = search (needs, list-kept, item-refused-call)
+returns c = opened (search (closed, needs, list-kept, item-refused-call))
 
 next-escape-requires : tie.Need-next-escape-requires
 next-escape-requires c κs = search needs
@@ -28,13 +29,13 @@ same-length-2 : tie.Need-same-length-2
 same-length-2 c = search needs
 
 returns-2 : tie.Need-returns-2
-returns-2 c = search (needs, list-kept, item-whole)
+returns-2 c = opened (search (closed, needs, list-kept, item-whole))
 
 same-length-3 : tie.Need-same-length-3
 same-length-3 c = search needs
 
 returns-3 : tie.Need-returns-3
-returns-3 c = search (needs, list-kept, item-refused-command)
+returns-3 c = opened (search (closed, needs, list-kept, item-refused-command))
 
 pub command-item-spec : {M : Type 1} → statement M
 command-item-spec =

@@ -1,3 +1,4 @@
+use Rattle.refusals.proofs.Shut.{opened, closed}
 use Rattle.stream_calls.proofs.Items.{next-item, nothing-hands, text-hands, del-hands, command-hands, refused-command-hands, refused-call-hands}
 use borrow.Author.Needs.{needs}
 use Rattle.stream_calls.proofs.ardh_next_item.Statement.{statement}
@@ -22,14 +23,14 @@ ardh-next-item-spec =
     (λ c. search needs)
     (λ c κs. search needs)
     (λ c. search needs)
-    (λ c. search (needs, next-item, nothing-hands))
+    (λ c. opened (search (closed, needs, next-item, nothing-hands)))
     (λ c. search needs)
-    (λ c. search (needs, next-item, text-hands))
+    (λ c. opened (search (closed, needs, next-item, text-hands)))
     (λ c. search needs)
-    (λ c. search (needs, next-item, del-hands))
+    (λ c. opened (search (closed, needs, next-item, del-hands)))
     (λ c. search needs)
-    (λ c. search (needs, next-item, command-hands))
+    (λ c. opened (search (closed, needs, next-item, command-hands)))
     (λ c. search needs)
-    (λ c. search (needs, next-item, refused-command-hands))
+    (λ c. opened (search (closed, needs, next-item, refused-command-hands)))
     (λ c. search needs)
-    (λ c. search (needs, next-item, refused-call-hands)))
+    (λ c. opened (search (closed, needs, next-item, refused-call-hands))))

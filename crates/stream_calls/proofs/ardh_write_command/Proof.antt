@@ -1,3 +1,4 @@
+use Rattle.refusals.proofs.Shut.{opened, closed}
 use Rattle.stream_calls.proofs.Writing.{command-written, command-refused}
 use borrow.Author.Needs.{needs}
 use Rattle.stream_calls.proofs.ardh_write_command.Statement.{statement}
@@ -25,13 +26,13 @@ same-length : tie.Need-same-length
 same-length c = search needs
 
 returns : tie.Need-returns
-returns c = search (needs, command-written)
+returns c = opened (search (closed, needs, command-written))
 
 same-length-2 : tie.Need-same-length-2
 same-length-2 c = search needs
 
 returns-2 : tie.Need-returns-2
-returns-2 c = search (needs, command-refused)
+returns-2 c = opened (search (closed, needs, command-refused))
 
 pub ardh-write-command-spec : {M : Type 1} → statement M
 ardh-write-command-spec =

@@ -1,3 +1,4 @@
+use Rattle.refusals.proofs.Shut.{opened, closed}
 use Rattle.stream_calls.proofs.Writing.{known-writes, unknown-writes, behind-given}
 use borrow.Author.Needs.{needs}
 use Rattle.stream_calls.proofs.write_given.Statement.{statement}
@@ -28,10 +29,10 @@ same-length : tie.Need-same-length
 same-length c = search needs
 
 returns : tie.Need-returns
-returns c = search (needs, known-writes)
+returns c = opened (search (closed, needs, known-writes))
 
 returns-2 : tie.Need-returns-2
-returns-2 c = search (needs, unknown-writes)
+returns-2 c = opened (search (closed, needs, unknown-writes))
 
 pub write-given-spec : {M : Type 1} → statement M
 write-given-spec =
