@@ -4,7 +4,7 @@ use mathlib.Core.Path.{_≡_, refl}
 use mathlib.Core.Bool.{true}
 use mathlib.Core.List.{List, [], _∷_}
 use Rattle.refusals.specs.Answers.{every, inFront, pastFront, number, valueOr, placeOf, endsAfter, allAfter}
-use Rattle.wire.specs.Taking.{pastDels, foundAt, byteAt, pairAt, isItself, threeAhead}
+use Rattle.wire.specs.Taking.{pastDels, foundAt, byteAt, pairAt, mostItself, isItself}
 use Rattle.wire.specs.Sending.{sentIn, sent, plainIn, isPlain, roomFor, writeAt, writeIf, afterWrite, poured}
 use Rattle.numbers.specs.Integers.{integerFrom, highsOf, spellOf}
 use Rattle.numbers.specs.Counts.{countIn}
@@ -57,7 +57,7 @@ wrongs =
 
 -- the one claim
 pub none-as-wrong : every differs wrongs ≡ true
-unfolding every inFront pastFront number valueOr placeOf endsAfter allAfter pastDels foundAt byteAt pairAt isItself threeAhead sentIn sent plainIn isPlain roomFor writeAt writeIf afterWrite poured
+unfolding every inFront pastFront number valueOr placeOf endsAfter allAfter pastDels foundAt byteAt pairAt mostItself isItself sentIn sent plainIn isPlain roomFor writeAt writeIf afterWrite poured
     integerFrom highsOf spellOf countIn byKind endsAt lastAt afterLoY afterUpper afterHiY pointFrom pointAt spellBytes coordinateOf byteWithin
     reportFrom reportAt stringAt afterString spellString isString begins kindOf entryAt runAt handed partAt fixedAt tailAt parametersAt
     afterLook modeBy afterLetters letterHere secondAt headAt bodyAt commandAt told afterEntries isKind isTail fits isCommand spellEntry spellEntries spellValues

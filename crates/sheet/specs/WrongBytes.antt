@@ -12,7 +12,7 @@ use Rattle.memory.specs.declared.Point.{Point}
 use Rattle.memory.specs.declared.DelMode.the-variants.{Data, Filler}
 use Rattle.memory.specs.declared.Remembered.{Remembered}
 use Rattle.memory.specs.Memory.{freshMemory, inside, remember, inMode}
-use Rattle.wire.specs.Taking.{pastDels, byteAt, threeAhead}
+use Rattle.wire.specs.Taking.{pastDels, byteAt, isItself}
 use Rattle.wire.specs.Sending.{sent, isPlain, roomFor, inRoom, writeAt, afterWrite}
 use Rattle.ranges.specs.Ranges.{within}
 use Rattle.characters.specs.Characters.{isCharacter, areCharacters, lowBytes}
@@ -127,12 +127,16 @@ wrong-take =
     ∷ taking-from padded (27 ∷ 127 ∷ []) (1 ∷ 0 ∷ [])
     ∷ []
 
-abbrev pub wrong-three-ahead : List Wrong
-wrong-three-ahead =
-    -- no byte above 127 is taken as it stands, nor is 127 whatever is remembered; and two bytes are not three
-    but (truth (threeAhead (64 ∷ 128 ∷ 48 ∷ []) 0)) (1 ∷ [])
-    ∷ but (truth (threeAhead (64 ∷ 127 ∷ 48 ∷ []) 0)) (1 ∷ [])
-    ∷ but (truth (threeAhead (64 ∷ 48 ∷ []) 0)) (1 ∷ [])
+abbrev pub wrong-are-themselves : List Wrong
+wrong-are-themselves =
+    -- "127 is data wherever a parameter allows it": it is taken as it stands; and it is not where it is filler
+    but (truth (every (isItself Data) (65 ∷ 127 ∷ []))) (0 ∷ [])
+    ∷ but (truth (every (isItself Filler) (65 ∷ 127 ∷ []))) (1 ∷ [])
+    -- neither ESC nor a byte above 127 ever is
+    ∷ but (truth (every (isItself Data) (27 ∷ 63 ∷ []))) (1 ∷ [])
+    ∷ but (truth (every (isItself Data) (128 ∷ []))) (1 ∷ [])
+    -- each byte is asked, not the last alone
+    ∷ but (truth (every (isItself Filler) (31 ∷ 65 ∷ []))) (1 ∷ [])
     ∷ []
 
 abbrev pub wrong-room-for : List Wrong
@@ -284,7 +288,7 @@ column-of-bytes =
     ∷ wrong-with-mode
     ∷ wrong-past-dels
     ∷ wrong-take
-    ∷ wrong-three-ahead
+    ∷ wrong-are-themselves
     ∷ wrong-room-for
     ∷ wrong-in-room
     ∷ wrong-write-bytes
