@@ -23,7 +23,7 @@ pub struct Command {
     pub parameters: Parameters,
 }
 
-// A command that was read, how many entries the list now has at its front, where reading goes on, and what is then remembered.
+// A command that was read, how many entries it has, where reading goes on, and what is then remembered.
 pub struct TakenCommand {
     pub command: Command,
     pub count: usize,
@@ -243,7 +243,8 @@ pub fn read_command(kept: Remembered, s: &[u8], start: usize, list: &mut [i32]) 
 
 // ---- the same where the entries are of no interest: none is handed over and none lacks room
 
-// A command has at most 256 entries, so that in this room 7 does not come, and the start, which would be its place, is not asked for.
+// Read as in room for 256 entries, the most that a command has: 7 does not come, and the start, which would be its place, is not asked for. The list
+// lent here has no room, so nothing is handed over.
 fn skim_body(kept: Remembered, letters: TakenLetters, s: &[u8]) -> CommandRead
     ensures { λ r. ⌜ commandOf r ≡ told (bodyAt kept (lettersOf letters) (now (s .entry)) 0 mostEntries) ⌝ }
 {

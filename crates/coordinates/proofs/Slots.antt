@@ -10,28 +10,28 @@ use Rattle.memory.specs.declared.DelMode.{DelMode}
 use Rattle.memory.specs.declared.DelMode.the-variants.{Data, Filler}
 use Rattle.memory.specs.declared.Remembered.{Remembered}
 use Rattle.refusals.specs.Answers.{pick}
-use Rattle.coordinates.specs.Remembering.{modeNumber, modeIn, slotsOf, pointIn, noMode, keptIn}
+use Rattle.coordinates.specs.Remembering.{modeNumber, modeOf, slotsOf, pointIn, noMode, keptIn}
 
 -- ---- the mode of a number
 
-pub filler-mode : (n : ℕ) → n ≡ 1 → Filler ≡ modeIn n
-unfolding modeIn
+pub filler-mode : (n : ℕ) → n ≡ 1 → Filler ≡ modeOf n
+unfolding modeOf
 filler-mode n e = rw e
 
-pub data-mode : (n : ℕ) → (n ≡ 1 → ⊥) → Data ≡ modeIn n
-unfolding modeIn
+pub data-mode : (n : ℕ) → (n ≡ 1 → ⊥) → Data ≡ modeOf n
+unfolding modeOf
 data-mode n e = rw (ne-eqb n 1 e)
 
 -- ---- what three numbers stand for
 
-pick-mode : (l : List ℕ) (n : ℕ) → n ≤ 1 → pointIn l (modeIn n) ≡ pick (eqb n 0) (pointIn l Data) (pick (eqb n 1) (pointIn l Filler) noMode)
-unfolding modeIn
+pick-mode : (l : List ℕ) (n : ℕ) → n ≤ 1 → pointIn l (modeOf n) ≡ pick (eqb n 0) (pointIn l Data) (pick (eqb n 1) (pointIn l Filler) noMode)
+unfolding modeOf
 pick-mode l zero h = refl
 pick-mode l (suc zero) h = refl
 pick-mode l (suc (suc n)) h = absurd (omega arith)
 
 module _ (l : List ℕ) where
-  pub mode-kept : {m : DelMode} → getD l 2 0 ≤ 1 → m ≡ modeIn (getD l 2 0) → pointIn l m ≡ keptIn l
+  pub mode-kept : {m : DelMode} → getD l 2 0 ≤ 1 → m ≡ modeOf (getD l 2 0) → pointIn l m ≡ keptIn l
   unfolding keptIn
   mode-kept h e = rw e (pick-mode l (getD l 2 0) h)
 

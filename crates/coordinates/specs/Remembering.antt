@@ -14,8 +14,8 @@ modeNumber Data = 0
 modeNumber Filler = 1
 
 -- the mode of a number that has one
-unfoldable pub modeIn : ℕ → DelMode
-modeIn n = pick (eqb n 1) Filler Data
+unfoldable pub modeOf : ℕ → DelMode
+modeOf n = pick (eqb n 1) Filler Data
 
 unfoldable pub slotsOf : Remembered → List ℕ
 slotsOf kept = kept .point .x ∷ kept .point .y ∷ modeNumber (kept .mode) ∷ []

@@ -1,7 +1,7 @@
 // What other languages hand in as numbers: a point of two numbers of any size, and what is remembered.
 ghost use mathlib.Core.Path.{_≡_};
 ghost use Rattle.coordinates.specs.Coordinates.{coordinateOf, pointGiven};
-ghost use Rattle.coordinates.specs.Remembering.{keptIn, modeIn, modeNumber, slotsOf};
+ghost use Rattle.coordinates.specs.Remembering.{keptIn, modeOf, modeNumber, slotsOf};
 use memory::DelMode;
 use memory::Point;
 use memory::Remembered;
@@ -33,7 +33,7 @@ pub fn point_given(x: i32, y: i32) -> Point
 // ---- what is remembered
 
 fn mode_of(number: u16) -> DelMode
-    ensures { λ r. ⌜ r ≡ modeIn number ⌝ }
+    ensures { λ r. ⌜ r ≡ modeOf number ⌝ }
 {
     if number == 1 {
         return DelMode::Filler;

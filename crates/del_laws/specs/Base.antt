@@ -1,5 +1,5 @@
 -- Document 01's own reading of parameters, "127 is data wherever a parameter allows it": "KI 0 returns to the old reading". Here is no mode, and what is
--- remembered is the point alone. What takes no byte is not written down again. proofs/Base.antt proves that in that mode it is what reading does.
+-- remembered is the point alone. What knows no mode is not written down again. proofs/Base.antt proves that in that mode it is what reading does.
 use Prim.Native.Nat.{ℕ, zero, suc, _+_, _*_, _%_}
 use mathlib.Core.List.{List, [], _∷_, _++_}
 use lib.Dec.{ltb, eqb}

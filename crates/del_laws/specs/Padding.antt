@@ -49,7 +49,7 @@ module _ (m : DelMode) (s : List ℕ) (room : ℕ) where
   abbrev pub itemWithout : Remembered → ℕ → Itemed Meaning
   itemWithout kept start = itemAt (inMode kept m) (withoutDels s) (placeWithout s start) room
 
-  -- an item of s and what comes behind it; a DEL has no item, and behind a KI nothing is said
+  -- an item of s and what comes behind it; a DEL has no item, and of a KI and of what is behind it nothing is said
   unfoldable pub SameItem : (rest : Remembered → ℕ → Type 0) → Remembered → ℕ → Itemed Meaning → Type 0
   SameItem rest kept start nothing = itemWithout kept start ≡ nothing
   SameItem rest kept start (text b n) = (itemWithout kept start ≡ text b (placeWithout s n)) × rest kept n

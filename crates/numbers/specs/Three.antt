@@ -14,7 +14,8 @@ highsBefore a b = pick (ltb a 64) 0 (pick (ltb b 64) 1 2)
 unfoldable pub highValue : ℕ → ℕ → ℕ
 highValue a b = pick (ltb a 64) 0 (pick (ltb b 64) (a % 64) (a % 64 * 64 + b % 64))
 
--- three bytes stand from at on, the first two are no DEL and no more, and the low byte is one
+-- three bytes stand from at on, the first two are below 127, and where the low byte should stand is one, 32..63; some integers that end there
+-- are left out, such as those with a 127
 unfoldable pub endsAhead : List ℕ → ℕ → Bool
 endsAhead s at =
     leb (at + 3) (length s)

@@ -133,8 +133,8 @@ fn high_value(a: u8, b: u8) -> u16
     high + only_if(two, 63 * high + (b % 64) as u16)
 }
 
-// Whether an integer ends among the three bytes from `at` on, and all of its bytes are taken as they stand. What follows its low byte is not
-// looked at more than the sums ask for: the last integer of a command has an ESC behind it.
+// Whether it is seen at once that an integer ends among the three bytes from `at` on and that each of its bytes is taken as it stands, in either
+// mode. Behind its low byte may stand what will, but a byte from 127 on: the last integer of a command has an ESC there.
 fn ends_ahead(s: &[u8], at: usize) -> bool
     ensures { λ r. ⌜ r ≡ endsAhead (now (s .entry)) at ⌝ }
 {

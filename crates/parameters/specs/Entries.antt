@@ -64,6 +64,6 @@ unfoldable pub afterRun : Entry → Remembered → List ℕ → Answer CountedRu
 afterRun e kept s (done h) l = handed (h .count) (entryValues e kept (h .count) s (h .start)) l
 afterRun e kept s (refused x p) l = l
 
--- k characters stand from at on, each of which is taken as it stands
+-- k characters stand from at on, each of which is taken as it stands. The quick way of reading goes by this; what a string is does not.
 unfoldable pub charactersAhead : Remembered → ℕ → List ℕ → ℕ → Bool
 charactersAhead kept k s at = leb (at + k) (length s) && every (isItself (kept .mode)) (take k (drop at s))

@@ -1,5 +1,5 @@
-// The parameters of a command: read by kind, and what they hold. The entries of a string or an array are read once, into an array of their own:
-// they come last, and go to the lent list once all of them are known to be good. Characters that are all taken as they stand go there at once.
+// The parameters of a command: read by kind, and what they hold. The entries of a string or an array are read into an array of their own: they come
+// last, and go to the lent list once all of them are known to be good. Characters that are all taken as they stand go there at once.
 ghost use mathlib.Core.Path.{_≡_};
 ghost use mathlib.Core.List.{[], _∷_, map};
 ghost use Prim.Native.Nat.{_≤_};
@@ -180,7 +180,7 @@ fn hand_over(entries: &[i32; 256], count: usize, list: &mut [i32])
 }
 
 // A count and that many entries, one by one, which go to the list if they are whole and it has room for all of them.
-fn run_with_care(kept: Remembered, entry: Entry, s: &[u8], at: usize, list: &mut [i32]) -> RunRead
+fn run_by_entries(kept: Remembered, entry: Entry, s: &[u8], at: usize, list: &mut [i32]) -> RunRead
     ensures { λ r. ⌜ (runOf r ≡ runAt entry kept (now (s .entry)) at) × (now (list .exit) ≡ afterRun entry kept (now (s .entry)) (runAt entry kept (now (s .entry)) at) (now (list .entry))) ⌝ }
 {
     match numbers::read_count(kept, s, at) {
@@ -235,8 +235,8 @@ fn characters_ahead(kept: Remembered, count: usize, s: &[u8], at: usize) -> bool
     wire::are_themselves(mode, &s[at..end])
 }
 
-// A string.
-fn string_of(kept: Remembered, s: &[u8], at: usize, list: &mut [i32]) -> RunRead
+// A string, straight from its bytes where these are taken as they stand; where one is not, from its count on once more, character by character.
+fn read_string(kept: Remembered, s: &[u8], at: usize, list: &mut [i32]) -> RunRead
     ensures { λ r. ⌜ (runOf r ≡ runAt Entry.ACharacter kept (now (s .entry)) at) × (now (list .exit) ≡ afterRun Entry.ACharacter kept (now (s .entry)) (runAt Entry.ACharacter kept (now (s .entry)) at) (now (list .entry))) ⌝ }
 {
     match numbers::read_count(kept, s, at) {
@@ -252,19 +252,19 @@ fn string_of(kept: Remembered, s: &[u8], at: usize, list: &mut [i32]) -> RunRead
                 };
                 return RunRead::Counted(run, end);
             }
-            run_with_care(kept, Entry::ACharacter, s, at, list)
+            run_by_entries(kept, Entry::ACharacter, s, at, list)
         }
         CountRead::Refused(e, p) => RunRead::Refused(e, p),
     }
 }
 
 // A string or an array.
-fn run_of(kept: Remembered, entry: Entry, s: &[u8], at: usize, list: &mut [i32]) -> RunRead
+fn read_run(kept: Remembered, entry: Entry, s: &[u8], at: usize, list: &mut [i32]) -> RunRead
     ensures { λ r. ⌜ (runOf r ≡ runAt entry kept (now (s .entry)) at) × (now (list .exit) ≡ afterRun entry kept (now (s .entry)) (runAt entry kept (now (s .entry)) at) (now (list .entry))) ⌝ }
 {
     match entry {
-        Entry::AnInteger => run_with_care(kept, entry, s, at, list),
-        Entry::ACharacter => string_of(kept, s, at, list),
+        Entry::AnInteger => run_by_entries(kept, entry, s, at, list),
+        Entry::ACharacter => read_string(kept, s, at, list),
     }
 }
 
@@ -428,7 +428,7 @@ fn look_list(
 ) -> ParametersRead
     ensures { λ r. ⌜ (lookOf r ≡ parametersAt kept (listShape entry) (now (s .entry)) at) × (now (list .exit) ≡ afterLook (now (s .entry)) (parametersAt kept (listShape entry) (now (s .entry)) at) (now (list .entry))) ⌝ }
 {
-    match run_of(kept, entry, s, at, list) {
+    match read_run(kept, entry, s, at, list) {
         RunRead::Counted(run, n) => whole(only_list(entry), run, n, kept),
         RunRead::Refused(e, p) => ParametersRead::Refused(e, p),
     }
@@ -445,7 +445,7 @@ fn look_integer_then_list(
     ensures { λ r. ⌜ (lookOf r ≡ parametersAt kept (integerThenListShape entry) (now (s .entry)) at) × (now (list .exit) ≡ afterLook (now (s .entry)) (parametersAt kept (integerThenListShape entry) (now (s .entry)) at) (now (list .entry))) ⌝ }
 {
     match numbers::read_integer(kept, s, at) {
-        IntegerRead::Integer(a) => match run_of(kept, entry, s, a.next, list) {
+        IntegerRead::Integer(a) => match read_run(kept, entry, s, a.next, list) {
             RunRead::Counted(run, m) => whole(integer_then_list(a.value, entry), run, m, kept),
             RunRead::Refused(e, p) => ParametersRead::Refused(e, p),
         },

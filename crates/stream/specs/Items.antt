@@ -35,11 +35,12 @@ noEscape b = not (eqb b 27)
 unfoldable pub passedFrom : List ℕ → ℕ → ℕ
 passedFrom s at = pastFront noEscape s at
 
--- a byte outside commands, and the next start
+-- a DEL that makes an item of its own
 unfoldable pub isFiller : DelMode → ℕ → Bool
 isFiller Data b = false
 isFiller Filler b = isDel b
 
+-- a byte outside commands, and the next start
 abbrev pub byteItem : DelMode → ℕ → ℕ → Itemed Meaning
 byteItem mode b next = pick (isFiller mode b) (del next) (text b next)
 

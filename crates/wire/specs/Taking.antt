@@ -49,7 +49,7 @@ foundAt mode s at =
 unfoldable pub byteAt : Remembered → List ℕ → ℕ → Answer (Read ℕ)
 byteAt kept s at = foundAt (kept .mode) s (pastDels (kept .mode) s at)
 
--- the highest byte that is taken as it stands: a DEL only where it is data
+-- the highest byte that is taken as it stands: a DEL only where it is data. The quick way of reading goes by this; what a byte is taken as does not.
 unfoldable pub mostItself : DelMode → ℕ
 mostItself Data = 127
 mostItself Filler = 126

@@ -1,4 +1,4 @@
-// A parameter's bytes on the wire: the one place that knows how they are taken and how they are sent.
+// A parameter's bytes on the wire: the one place that knows how they are taken and how they are sent, but for the quick way of an integer.
 ghost use mathlib.Core.Path.{_≡_};
 ghost use Prim.Native.Nat.{_+_};
 ghost use mathlib.Core.List.{[], _∷_};

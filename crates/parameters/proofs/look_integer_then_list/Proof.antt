@@ -9,8 +9,8 @@ read-integer-requires c κs = search needs
 enum-known-a : tie.Need-enum-known-a
 enum-known-a c = search needs
 
-run-of-requires : tie.Need-run-of-requires
-run-of-requires c κs = search needs
+read-run-requires : tie.Need-read-run-requires
+read-run-requires c κs = search needs
 
 enum-known-run : tie.Need-enum-known-run
 enum-known-run c = search needs
@@ -48,7 +48,7 @@ look-integer-then-list-spec =
     (tie.spec
     read-integer-requires
     enum-known-a
-    run-of-requires
+    read-run-requires
     enum-known-run
     integer-then-list-requires
     whole-requires

@@ -3,8 +3,8 @@ use borrow.Author.Needs.{needs}
 use Rattle.parameters.proofs.look_list.Statement.{statement}
 use Rattle.parameters.proofs.look_list.Tie as tie
 
-run-of-requires : tie.Need-run-of-requires
-run-of-requires c κs = search needs
+read-run-requires : tie.Need-read-run-requires
+read-run-requires c κs = search needs
 
 enum-known-run : tie.Need-enum-known-run
 enum-known-run c = search needs
@@ -34,7 +34,7 @@ pub look-list-spec : {M : Type 1} → statement M
 look-list-spec =
     tie.close
     (tie.spec
-    run-of-requires
+    read-run-requires
     enum-known-run
     only-list-requires
     whole-requires

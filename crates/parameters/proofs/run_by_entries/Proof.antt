@@ -1,7 +1,7 @@
 use Rattle.parameters.proofs.Entering.{runs}
 use borrow.Author.Needs.{needs}
-use Rattle.parameters.proofs.run_with_care.Statement.{statement}
-use Rattle.parameters.proofs.run_with_care.Tie as tie
+use Rattle.parameters.proofs.run_by_entries.Statement.{statement}
+use Rattle.parameters.proofs.run_by_entries.Tie as tie
 
 read-count-requires : tie.Need-read-count-requires
 read-count-requires c κs = search needs
@@ -36,8 +36,8 @@ returns-2 c = search (needs, runs)
 returns-3 : tie.Need-returns-3
 returns-3 c = search (needs, runs)
 
-pub run-with-care-spec : {M : Type 1} → statement M
-run-with-care-spec =
+pub run-by-entries-spec : {M : Type 1} → statement M
+run-by-entries-spec =
     tie.close
     (tie.spec
     read-count-requires

@@ -1,19 +1,19 @@
 use Rattle.parameters.proofs.Entering.{string-run, string-left}
 use borrow.Author.Needs.{needs}
-use Rattle.parameters.proofs.run_of.Statement.{statement}
-use Rattle.parameters.proofs.run_of.Tie as tie
+use Rattle.parameters.proofs.read_run.Statement.{statement}
+use Rattle.parameters.proofs.read_run.Tie as tie
 
 enum-told : tie.Need-enum-told
 enum-told c = search needs
 
-run-with-care-requires : tie.Need-run-with-care-requires
-run-with-care-requires c κs = search needs
+run-by-entries-requires : tie.Need-run-by-entries-requires
+run-by-entries-requires c κs = search needs
 
 enum-told-2 : tie.Need-enum-told-2
 enum-told-2 c = search needs
 
-string-of-requires : tie.Need-string-of-requires
-string-of-requires c κs = search needs
+read-string-requires : tie.Need-read-string-requires
+read-string-requires c κs = search needs
 
 same-length : tie.Need-same-length
 same-length c = search needs
@@ -27,14 +27,14 @@ same-length-2 c = search needs
 returns-2 : tie.Need-returns-2
 returns-2 c = search (needs, string-run, string-left)
 
-pub run-of-spec : {M : Type 1} → statement M
-run-of-spec =
+pub read-run-spec : {M : Type 1} → statement M
+read-run-spec =
     tie.close
     (tie.spec
     enum-told
-    run-with-care-requires
+    run-by-entries-requires
     enum-told-2
-    string-of-requires
+    read-string-requires
     same-length
     returns
     same-length-2

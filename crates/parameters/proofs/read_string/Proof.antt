@@ -1,7 +1,7 @@
 use Rattle.parameters.proofs.Entering.{runs, strings, string-counts}
 use borrow.Author.Needs.{needs}
-use Rattle.parameters.proofs.string_of.Statement.{statement}
-use Rattle.parameters.proofs.string_of.Tie as tie
+use Rattle.parameters.proofs.read_string.Statement.{statement}
+use Rattle.parameters.proofs.read_string.Tie as tie
 
 read-count-requires : tie.Need-read-count-requires
 read-count-requires c κs = search needs
@@ -33,8 +33,8 @@ same-length c = search needs
 returns : tie.Need-returns
 returns c = search (needs, strings)
 
-run-with-care-requires : tie.Need-run-with-care-requires
-run-with-care-requires c κs = search needs
+run-by-entries-requires : tie.Need-run-by-entries-requires
+run-by-entries-requires c κs = search needs
 
 enum-known-e : tie.Need-enum-known-e
 enum-known-e c = search needs
@@ -48,8 +48,8 @@ returns-2 c = search needs
 returns-3 : tie.Need-returns-3
 returns-3 c = search (needs, runs)
 
-pub string-of-spec : {M : Type 1} → statement M
-string-of-spec =
+pub read-string-spec : {M : Type 1} → statement M
+read-string-spec =
     tie.close
     (tie.spec
     read-count-requires
@@ -62,7 +62,7 @@ string-of-spec =
     lay-characters-requires
     same-length
     returns
-    run-with-care-requires
+    run-by-entries-requires
     enum-known-e
     same-length-2
     returns-2
