@@ -7,6 +7,8 @@ use lib.IntN.{ℤ}
 use mir.Syntax.{w32}
 use mir.Val.{SFits, toZ, ofZ}
 use mir.Facts.{toZ-ofZ}
+use Rattle.coordinates.specs.Coordinates.{pointGiven}
+use Rattle.coordinates.proofs.Sides.{point-given}
 use Rattle.refusals.specs.declared.Refusal.{Refusal}
 use Rattle.refusals.specs.Refusals.{numberOf}
 use Rattle.memory.specs.declared.Point.{Point}
@@ -52,11 +54,12 @@ module _ (w h : ℕ) (l : List ℕ) {b : Beam} (eb : b ≡ beamIn l) {q : Settle
       → q ≡ setBits w h b (toZ w32 (ofZ w32 i)) (toZ w32 (ofZ w32 j)) (toZ w32 (ofZ w32 k)) → q ≡ setBits w h (beamIn l) i j k
   bits-given i j k fi fj fk e = e ∙ rw (eb, toZ-ofZ fi, toZ-ofZ fj, toZ-ofZ fk)
 
-  pub viewport-given : {p r a c : Point} → p ≡ a → r ≡ c → q ≡ setViewport w h b p r → q ≡ setViewport w h (beamIn l) a c
-  viewport-given ep er e = e ∙ rw (eb, ep, er)
+  pub viewport-given : (x y x₂ y₂ : ℤ) → SFits w32 x → SFits w32 y → SFits w32 x₂ → SFits w32 y₂ → {p r : Point} → p ≡ pointGiven (toZ w32 (ofZ w32 x)) (toZ w32 (ofZ w32 y)) → r ≡ pointGiven (toZ w32 (ofZ w32 x₂)) (toZ w32 (ofZ w32 y₂))
+      → q ≡ setViewport w h b p r → q ≡ setViewport w h (beamIn l) (pointGiven x y) (pointGiven x₂ y₂)
+  viewport-given x y x₂ y₂ fx fy fx₂ fy₂ ep er e = e ∙ rw (eb, point-given x y fx fy ep, point-given x₂ y₂ fx₂ fy₂ er)
 
-  pub beam-given : {p a : Point} → p ≡ a → q ≡ setBeam w h b p → q ≡ setBeam w h (beamIn l) a
-  beam-given ep e = e ∙ rw (eb, ep)
+  pub beam-given : (x y : ℤ) → SFits w32 x → SFits w32 y → {p : Point} → p ≡ pointGiven (toZ w32 (ofZ w32 x)) (toZ w32 (ofZ w32 y)) → q ≡ setBeam w h b p → q ≡ setBeam w h (beamIn l) (pointGiven x y)
+  beam-given x y fx fy ep e = e ∙ rw (eb, point-given x y fx fy ep)
 
   pub step-given : q ≡ makeStep w h b → q ≡ makeStep w h (beamIn l)
   step-given e = e ∙ rw eb

@@ -1,5 +1,4 @@
 use Rattle.refusals.proofs.Shut.{opened, closed}
-use Rattle.coordinates.proofs.Sides.{point-given}
 use Rattle.pixel_calls.proofs.Answers.{settled-so, beam-given}
 use borrow.Author.Needs.{needs}
 use Rattle.pixel_calls.proofs.ardh_set_beam.Statement.{statement}
@@ -18,7 +17,7 @@ of-setting-requires : tie.Need-of-setting-requires
 of-setting-requires c κs = search needs
 
 returns : tie.Need-returns
-returns c = opened (search (closed, needs, settled-so, beam-given, point-given))
+returns c = opened (search (closed, needs, settled-so, beam-given))
 
 pub ardh-set-beam-spec : {M : Type 1} → statement M
 ardh-set-beam-spec =

@@ -1,5 +1,4 @@
 use Rattle.refusals.proofs.Shut.{opened, closed}
-use Rattle.coordinates.proofs.Sides.{point-given}
 use Rattle.pixel_calls.proofs.Answers.{settled-so, viewport-given}
 use borrow.Author.Needs.{needs}
 use Rattle.pixel_calls.proofs.ardh_set_viewport.Statement.{statement}
@@ -21,7 +20,7 @@ of-setting-requires : tie.Need-of-setting-requires
 of-setting-requires c κs = search needs
 
 returns : tie.Need-returns
-returns c = opened (search (closed, needs, settled-so, viewport-given, point-given))
+returns c = opened (search (closed, needs, settled-so, viewport-given))
 
 pub ardh-set-viewport-spec : {M : Type 1} → statement M
 ardh-set-viewport-spec =
