@@ -1,6 +1,7 @@
 // The table of the 21 commands: their letters, and the kind of parameters of each.
 ghost use mathlib.Core.Path.{_≡_};
-ghost use Rattle.table.specs.Table.{begins, kindOf, foundOf};
+ghost use Rattle.table.specs.Table.{begins, kindOf, kindMeant, foundOf};
+ghost use Rattle.table.specs.Slots.{slotOf, RowAt};
 
 pub enum Kind {
     OneInteger,
@@ -37,72 +38,59 @@ pub fn begins_command(first: u8) -> bool
     }
 }
 
-fn of_k(second: u8) -> Found
-    ensures { λ r. ⌜ foundOf r ≡ kindOf 75 second ⌝ }
+struct Row {
+    first: u8,
+    second: u8,
+    kind: Kind,
+}
+
+fn command(slot: usize, first: u8, second: u8, kind: Kind) -> Row
+    requires { ⌜ RowAt slot first second (kindMeant kind) ⌝ }
+    ensures { λ r. ⌜ RowAt slot (r .first) (r .second) (kindMeant (r .kind)) ⌝ }
 {
-    match second {
-        b'A' => Found::Is(Kind::OneInteger),
-        b'D' => Found::Is(Kind::IntegerThenArray),
-        b'H' => Found::Is(Kind::OneInteger),
-        b'I' => Found::Is(Kind::OneInteger),
-        b'O' => Found::Is(Kind::IntegerThenArray),
-        b'X' => Found::Is(Kind::OneInteger),
-        _ => Found::NoKind,
+    Row {
+        first: first,
+        second: second,
+        kind: kind,
     }
 }
 
-fn of_l(second: u8) -> Found
-    ensures { λ r. ⌜ foundOf r ≡ kindOf 76 second ⌝ }
+// Each command has a slot of its own, so that one look finds its row: a `match` by one letter and then by the other is guessed wrong twice.
+fn slot_of(first: u8, second: u8) -> usize
+    ensures { λ r. ⌜ r ≡ slotOf first second ⌝ }
 {
-    match second {
-        b'F' => Found::Is(Kind::OnePoint),
-        b'G' => Found::Is(Kind::OnePoint),
-        b'L' => Found::Is(Kind::OneInteger),
-        b'T' => Found::Is(Kind::AString),
-        b'V' => Found::Is(Kind::OneInteger),
-        _ => Found::NoKind,
-    }
+    let high = 31 * (first as usize);
+    let low = 2 * (second as usize);
+    (high + low) % 64
 }
 
-fn of_r(second: u8) -> Found
-    ensures { λ r. ⌜ foundOf r ≡ kindOf 82 second ⌝ }
+// The row of the only command that may stand in a slot. Of an empty slot any row will do: its letters are not those looked for.
+fn row_at(slot: usize) -> Row
+    ensures { λ r. ⌜ RowAt slot (r .first) (r .second) (kindMeant (r .kind)) ⌝ }
 {
-    match second {
-        b'D' => Found::Is(Kind::AnArray),
-        b'H' => Found::Is(Kind::OnePoint),
-        b'L' => Found::Is(Kind::AnArray),
-        b'P' => Found::Is(Kind::IntegerThenString),
-        b'S' => Found::Is(Kind::TwoPoints),
-        b'U' => Found::Is(Kind::ThreeIntegers),
-        _ => Found::NoKind,
-    }
-}
-
-fn of_n(second: u8) -> Found
-    ensures { λ r. ⌜ foundOf r ≡ kindOf 78 second ⌝ }
-{
-    match second {
-        b'L' => Found::Is(Kind::OneInteger),
-        b'R' => Found::Is(Kind::TwoIntegers),
-        _ => Found::NoKind,
-    }
-}
-
-fn of_m(second: u8) -> Found
-    ensures { λ r. ⌜ foundOf r ≡ kindOf 77 second ⌝ }
-{
-    match second {
-        b'R' => Found::Is(Kind::AReal),
-        _ => Found::NoKind,
-    }
-}
-
-fn of_i(second: u8) -> Found
-    ensures { λ r. ⌜ foundOf r ≡ kindOf 73 second ⌝ }
-{
-    match second {
-        b'Q' => Found::Is(Kind::TwoCharacters),
-        _ => Found::NoKind,
+    match slot {
+        0 => command(slot, b'L', b'F', Kind::OnePoint),
+        2 => command(slot, b'L', b'G', Kind::OnePoint),
+        5 => command(slot, b'K', b'X', Kind::OneInteger),
+        6 => command(slot, b'R', b'L', Kind::AnArray),
+        10 => command(slot, b'N', b'L', Kind::OneInteger),
+        12 => command(slot, b'L', b'L', Kind::OneInteger),
+        14 => command(slot, b'R', b'P', Kind::IntegerThenString),
+        20 => command(slot, b'R', b'S', Kind::TwoPoints),
+        22 => command(slot, b'N', b'R', Kind::TwoIntegers),
+        23 => command(slot, b'K', b'A', Kind::OneInteger),
+        24 => command(slot, b'R', b'U', Kind::ThreeIntegers),
+        28 => command(slot, b'L', b'T', Kind::AString),
+        29 => command(slot, b'K', b'D', Kind::IntegerThenArray),
+        32 => command(slot, b'L', b'V', Kind::OneInteger),
+        37 => command(slot, b'K', b'H', Kind::OneInteger),
+        39 => command(slot, b'K', b'I', Kind::OneInteger),
+        51 => command(slot, b'K', b'O', Kind::IntegerThenArray),
+        54 => command(slot, b'R', b'D', Kind::AnArray),
+        55 => command(slot, b'M', b'R', Kind::AReal),
+        57 => command(slot, b'I', b'Q', Kind::TwoCharacters),
+        62 => command(slot, b'R', b'H', Kind::OnePoint),
+        _ => command(slot, b'K', b'A', Kind::OneInteger),
     }
 }
 
@@ -110,13 +98,12 @@ fn of_i(second: u8) -> Found
 pub fn kind_of(first: u8, second: u8) -> Found
     ensures { λ r. ⌜ foundOf r ≡ kindOf first second ⌝ }
 {
-    match first {
-        b'I' => of_i(second),
-        b'K' => of_k(second),
-        b'L' => of_l(second),
-        b'M' => of_m(second),
-        b'N' => of_n(second),
-        b'R' => of_r(second),
-        _ => Found::NoKind,
+    let row = row_at(slot_of(first, second));
+    let kind = row.kind;
+    if row.first == first {
+        if row.second == second {
+            return Found::Is(kind);
+        }
     }
+    Found::NoKind
 }
