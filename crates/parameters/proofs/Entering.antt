@@ -13,7 +13,7 @@ use lib.IntN.{ℤ, pos}
 use Rattle.memory.specs.declared.Remembered.{Remembered}
 use Rattle.refusals.specs.declared.Refusal.{Refusal}
 use Rattle.refusals.specs.Refusals.{numberOf}
-use Rattle.refusals.specs.Answers.{Answer, done, refused, Read, every, endsAfter, allAfter}
+use Rattle.refusals.specs.Answers.{Answer, done, refused, Read, then, pick, every, valueOr, endsAfter, allAfter}
 use Rattle.refusals.proofs.Cases.{by-then, and-left, and-right, Done, done-of, done-map, is-done, not-done}
 use Rattle.refusals.proofs.Many as many
 use Rattle.wire.specs.declared.TakenByte.{TakenByte}
@@ -36,7 +36,7 @@ use Rattle.parameters.specs.declared.EntriesEnd.{EntriesEnd}
 use Rattle.parameters.specs.declared.EntriesEnd.the-variants.{End}
 use Rattle.parameters.specs.declared.RunRead.{RunRead}
 use Rattle.parameters.specs.declared.RunRead.the-variants.{Counted}
-use Rattle.parameters.specs.Entries.{entryAt, entriesEnd, entryValues, entriesEndOf, CountedRun, runOf, runAt, handed, afterRun, charactersAhead}
+use Rattle.parameters.specs.Entries.{entryAt, entriesEnd, entryValues, entriesEndOf, CountedRun, runOf, runAt, handed, afterRun, afterEntries, charactersAhead}
 
 -- ---- one entry
 
@@ -69,21 +69,46 @@ entry-none e kept s at q g = sym q ∙ rw g
 
 -- ---- so many of them
 
--- what is left, read from here, ends where the whole ends and fills the list as the whole does
-pub record Reading (e : Entry) (kept : Remembered) (s : List ℕ) (at count : ℕ) (l₀ l : List ℤ) (i n : ℕ) : Type 0 where
+-- what is left, read from here, ends where the whole ends
+pub record Passing (e : Entry) (kept : Remembered) (s : List ℕ) (at count i n : ℕ) : Type 0 where
   pub upto : i ≤ count
-  pub filling : many.Filling (entryAt e kept s) at count l₀ l i n
   pub rest : entriesEnd e kept (count - i) s n ≡ entriesEnd e kept count s at
+
+pub passing-none : (e : Entry) (kept : Remembered) (s : List ℕ) (at count : ℕ) → Passing e kept s at count 0 at
+passing-none e kept s at count = let z : count - 0 ≡ count = omega arith in record { upto = omega arith; rest = rw z }
+
+module _ (e : Entry) (kept : Remembered) (s : List ℕ) (at count i n : ℕ) (f : Passing e kept s at count i n) where
+  pub passing-end : count ≤ i → entriesEndOf (End n) ≡ entriesEnd e kept count s at
+  unfolding entriesEndOf
+  passing-end h = many.passed-all (entryAt e kept s) (count - i) n (omega arith) (f .rest)
+
+  module _ {r : IntegerRead} (g : integerOf r ≡ entryAt e kept s n) where
+    pub passing-more : {v : TakenInteger} → i < count → r ≡ Integer v → Passing e kept s at count (i + 1) (v .next)
+    passing-more h k =
+        let z : count - i - 1 ≡ count - (i + 1) = omega arith in
+        record {
+          upto = omega arith;
+          rest = rw z at (many.passed-one (entryAt e kept s) (count - i) n (entry-given e kept s n g k) (omega arith) (f .rest));
+        }
+
+    pub passing-cut : {x : Refusal} {p : ℕ} → i < count → r ≡ IntegerRead.Refused x p → entriesEndOf (EntriesEnd.Refused x p) ≡ entriesEnd e kept count s at
+    unfolding entriesEndOf
+    passing-cut h k = many.passed-none (entryAt e kept s) (count - i) n (entry-none e kept s n g k) (omega arith) (f .rest)
+
+pub ruleset passings = (passing-none, passing-end, passing-more, passing-cut)
+
+-- and fills the list as the whole does
+pub record Reading (e : Entry) (kept : Remembered) (s : List ℕ) (at count : ℕ) (l₀ l : List ℤ) (i n : ℕ) : Type 0 where
+  pub passing : Passing e kept s at count i n
+  pub filling : many.Filling (entryAt e kept s) at count l₀ l i n
 
 pub reading-none : (e : Entry) (kept : Remembered) (s : List ℕ) (at count : ℕ) (l : List ℤ) → Reading e kept s at count l l 0 at
 reading-none e kept s at count l =
-    let z : count - 0 ≡ count = omega arith in
-    record { upto = omega arith; filling = many.filling-none (entryAt e kept s) at count l; rest = rw z }
+    record { passing = passing-none e kept s at count; filling = many.filling-none (entryAt e kept s) at count l }
 
 module _ (e : Entry) (kept : Remembered) (s : List ℕ) (at count : ℕ) (l₀ l : List ℤ) (i n : ℕ) (f : Reading e kept s at count l₀ l i n) where
   pub reading-end : count ≤ i → entriesEndOf (End n) ≡ entriesEnd e kept count s at
-  unfolding entriesEndOf
-  reading-end h = many.passed-all (entryAt e kept s) (count - i) n (omega arith) (f .rest)
+  reading-end h = passing-end e kept s at count i n (f .passing) h
 
   pub reading-all : count ≤ i → l ≡ sets l₀ 0 (entryValues e kept count s at)
   reading-all h = many.filling-end (entryAt e kept s) at count l₀ l i n (f .filling) h
@@ -91,17 +116,13 @@ module _ (e : Entry) (kept : Remembered) (s : List ℕ) (at count : ℕ) (l₀ l
   module _ {r : IntegerRead} (g : integerOf r ≡ entryAt e kept s n) where
     pub reading-more : (x : ℤ) {v : TakenInteger} → i < count → r ≡ Integer v → x ≡ v .value → Reading e kept s at count l₀ (set l i x) (i + 1) (v .next)
     reading-more x h k j =
-        let z : count - i - 1 ≡ count - (i + 1) = omega arith in
-        let one = entry-given e kept s n g k in
         record {
-          upto = omega arith;
-          filling = rw j (many.filling-more (entryAt e kept s) at count l₀ l i n (f .filling) h one);
-          rest = rw z at (many.passed-one (entryAt e kept s) (count - i) n one (omega arith) (f .rest));
+          passing = passing-more e kept s at count i n (f .passing) g h k;
+          filling = rw j (many.filling-more (entryAt e kept s) at count l₀ l i n (f .filling) h (entry-given e kept s n g k));
         }
 
     pub reading-cut : {x : Refusal} {p : ℕ} → i < count → r ≡ IntegerRead.Refused x p → entriesEndOf (EntriesEnd.Refused x p) ≡ entriesEnd e kept count s at
-    unfolding entriesEndOf
-    reading-cut h k = many.passed-none (entryAt e kept s) (count - i) n (entry-none e kept s n g k) (omega arith) (f .rest)
+    reading-cut h k = passing-cut e kept s at count i n (f .passing) g h k
 
     pub reading-some : {x : Refusal} {p : ℕ} → r ≡ IntegerRead.Refused x p → l ≡ sets l₀ 0 (entryValues e kept count s at)
     reading-some k = many.filling-cut (entryAt e kept s) at count l₀ l i n (f .filling) (entry-none e kept s n g k)
@@ -149,7 +170,7 @@ module _ (es : List ℤ) (k : ℕ) (l₀ l : List ℤ) (i : ℕ) (f : Handing es
 
 pub ruleset handings = (no-room, handing-none, handing-more, handing-end)
 
--- ---- a count and that many entries
+-- ---- reading them into an array, and handing them over from it
 
 -- readings that come to their end gave as many values
 pub all-read : {A : Type 0} (one : ℕ → Answer (Read A)) (k at : ℕ) → Done (λ n. length (allAfter one k at) ≡ k) (endsAfter one k at)
@@ -165,6 +186,42 @@ pub front-is : (es z : List ℤ) (k : ℕ) → length es ≡ k → k ≤ length 
 front-is es z k e h =
     ap (λ (m : List ℤ). take k m) (sets-eq es z 0 (omega (arith, e))) ∙ take-at es (drop (0 + length es) z) k e
 
+module _ (e : Entry) (kept : Remembered) (k : ℕ) (s : List ℕ) (at : ℕ) where
+  pub stored-there : (z : List ℤ) {es : List ℤ} → k ≤ 256 → length z ≡ 256 → es ≡ sets z 0 (entryValues e kept k s at) → k ≤ length es
+  stored-there z h y q = rw (q, length-sets z 0 (entryValues e kept k s at), y) h
+
+  pub none-handed : (l : List ℤ) → length l < k → l ≡ afterEntries e kept k s at l
+  unfolding afterEntries handed valueOr
+  none-handed l h = go (entriesEnd e kept k s at)
+    where
+      go : (q : Answer ℕ) → l ≡ valueOr l (λ (n : ℕ). pick (leb k (length l)) (sets l 0 (entryValues e kept k s at)) l) q
+      go (done n) = rw (lt-leb k (length l) h)
+      go (refused x p) = refl
+
+  module _ {t : EntriesEnd} (et : entriesEndOf t ≡ entriesEnd e kept k s at) where
+    pub end-handed : {u : EntriesEnd} → t ≡ u → entriesEndOf u ≡ entriesEnd e kept k s at
+    end-handed h = sym (ap entriesEndOf h) ∙ et
+
+    pub cut-handed : (l : List ℤ) {x : Refusal} {q : ℕ} → t ≡ EntriesEnd.Refused x q → l ≡ afterEntries e kept k s at l
+    unfolding afterEntries entriesEndOf valueOr
+    cut-handed l h = rw (← et, h)
+
+    ended : {m : ℕ} → t ≡ End m → entriesEnd e kept k s at ≡ done m
+    unfolding entriesEndOf
+    ended h = sym et ∙ rw h
+
+    pub all-handed : (l z : List ℤ) {es o : List ℤ} {m : ℕ} → t ≡ End m → k ≤ 256 → length z ≡ 256 → es ≡ sets z 0 (entryValues e kept k s at) → o ≡ handed k (take k es) l → o ≡ afterEntries e kept k s at l
+    unfolding afterEntries valueOr
+    all-handed l z h b y q j =
+        let all = entryValues e kept k s at in
+        let long : length all ≡ k = done-of (λ x. length (allAfter (entryAt e kept s) k at) ≡ k) (all-read (entryAt e kept s) k at) (ended h) in
+        let front = front-is all z k long (omega (arith, y, b)) in
+        j ∙ ap (λ (w : List ℤ). handed k (take k w) l) q ∙ ap (λ (w : List ℤ). handed k w l) front ∙ rw (ended h)
+
+pub ruleset handed-over = (stored-there, none-handed, end-handed, cut-handed, all-handed)
+
+-- ---- a count and that many entries
+
 module _ (kept : Remembered) (s : List ℕ) (at : ℕ) {c : CountRead} (ec : countOf c ≡ countAt kept s at) {k : TakenCount} (g : c ≡ Count k) where
   count-given : countAt kept s at ≡ done (record { value = k .value; place = k .place; next = k .next })
   unfolding countOf
@@ -173,8 +230,11 @@ module _ (kept : Remembered) (s : List ℕ) (at : ℕ) {c : CountRead} (ec : cou
   pub count-few : k .value ≤ 256
   count-few = count-shown kept s at count-given .writable
 
-  pub count-there : (z vs : List ℤ) {es : List ℤ} → length z ≡ 256 → es ≡ sets z 0 vs → k .value ≤ length es
-  count-there z vs h e = rw (e, length-sets z 0 vs, h) count-few
+-- the list behind a counted one, once the count is known
+run-list : (e : Entry) (kept : Remembered) (k : ℕ) (s : List ℕ) (start : ℕ) (l : List ℤ) (q : Answer ℕ) → valueOr l (λ (n : ℕ). handed k (entryValues e kept k s start) l) q ≡ afterRun e kept s (then q (λ n. done (record { start = start; count = k; next = n }))) l
+unfolding afterRun valueOr
+run-list e kept k s start l (done n) = refl
+run-list e kept k s start l (refused x p) = refl
 
 module _ (e : Entry) (kept : Remembered) (s : List ℕ) (at : ℕ) {c : CountRead} (ec : countOf c ≡ countAt kept s at) where
   pub run-no : {x : Refusal} {p : ℕ} → c ≡ CountRead.Refused x p → runOf (RunRead.Refused x p) ≡ runAt e kept s at
@@ -186,33 +246,20 @@ module _ (e : Entry) (kept : Remembered) (s : List ℕ) (at : ℕ) {c : CountRea
   kept-no l g = rw (← ec, g)
 
   module _ {k : TakenCount} (g : c ≡ Count k) where
+    pub run-left : (l : List ℤ) {o : List ℤ} → o ≡ afterEntries e kept (k .value) s (k .next) l → o ≡ afterRun e kept s (runAt e kept s at) l
+    unfolding runAt countOf afterEntries
+    run-left l j = j ∙ run-list e kept (k .value) s (k .next) l (entriesEnd e kept (k .value) s (k .next)) ∙ rw (← ec, g)
+
     module _ {t : EntriesEnd} (et : entriesEndOf t ≡ entriesEnd e kept (k .value) s (k .next)) where
       pub run-cut : {x : Refusal} {q : ℕ} → t ≡ EntriesEnd.Refused x q → runOf (RunRead.Refused x q) ≡ runAt e kept s at
       unfolding runAt runOf countOf entriesEndOf
       run-cut h = rw (← ec, g, ← et, h)
 
-      pub kept-cut : (l : List ℤ) {x : Refusal} {q : ℕ} → t ≡ EntriesEnd.Refused x q → l ≡ afterRun e kept s (runAt e kept s at) l
-      unfolding runAt afterRun countOf entriesEndOf
-      kept-cut l h = rw (← ec, g, ← et, h)
-
       pub run-whole : {m : ℕ} → t ≡ End m → runOf (Counted (record { start = k .next; count = k .value }) m) ≡ runAt e kept s at
       unfolding runAt runOf countOf entriesEndOf
       run-whole h = rw (← ec, g, ← et, h)
 
-      ended : {m : ℕ} → t ≡ End m → entriesEnd e kept (k .value) s (k .next) ≡ done m
-      unfolding entriesEndOf
-      ended h = sym et ∙ rw h
-
-      pub run-handed : (l z : List ℤ) {es o : List ℤ} {m : ℕ} → t ≡ End m → length z ≡ 256 → es ≡ sets z 0 (entryValues e kept (k .value) s (k .next)) → o ≡ handed (k .value) (take (k .value) es) l → o ≡ afterRun e kept s (runAt e kept s at) l
-      unfolding runAt afterRun countOf entriesEndOf
-      run-handed l z h y q j =
-          let n = k .value in
-          let all = entryValues e kept n s (k .next) in
-          let long : length all ≡ n = done-of (λ x. length (allAfter (entryAt e kept s) n (k .next)) ≡ n) (all-read (entryAt e kept s) n (k .next)) (ended h) in
-          let front = front-is all z n long (omega (arith, y, count-few kept s at ec g)) in
-          j ∙ ap (λ (w : List ℤ). handed n (take n w) l) q ∙ ap (λ (w : List ℤ). handed n w l) front ∙ rw (← ec, g, ← et, h)
-
-pub ruleset runs = (count-few, count-there, run-no, kept-no, run-cut, kept-cut, run-whole, run-handed)
+pub ruleset runs = (count-few, run-no, kept-no, run-left, run-cut, run-whole)
 
 -- ---- characters that are taken as they stand
 
@@ -291,41 +338,37 @@ module _ (w : List ℕ) (l₀ l : List ℤ) (i : ℕ) (f : Handing (map pos w) (
 
 pub ruleset layings = (laying-no, laying-none, laying-more, laying-end)
 
--- ---- a string of them
+-- ---- so many of them
 
-module _ (kept : Remembered) (s : List ℕ) (at : ℕ) {c : CountRead} (ec : countOf c ≡ countAt kept s at) {k : TakenCount} (g : c ≡ Count k) {r : Bool} (er : r ≡ charactersAhead kept (k .value) s (k .next)) (t : r ≡ true) where
-  so : AsTheyStand kept (k .value) s (k .next)
-  so = standing kept (k .value) s (k .next) er t
+module _ (kept : Remembered) (k : ℕ) (s : List ℕ) (at : ℕ) {r : Bool} (er : r ≡ charactersAhead kept k s at) (t : r ≡ true) where
+  so : AsTheyStand kept k s at
+  so = standing kept k s at er t
 
-  told : entriesEndOf (End (k .next + k .value)) ≡ entriesEnd ACharacter kept (k .value) s (k .next)
+  pub characters-end : entriesEndOf (End (at + k)) ≡ entriesEnd ACharacter kept k s at
   unfolding entriesEndOf
-  told = sym (so .end-is)
+  characters-end = sym (so .end-is)
 
-  pub string-whole : runOf (Counted (record { start = k .next; count = k .value }) (k .next + k .value)) ≡ runAt ACharacter kept s at
-  string-whole = run-whole ACharacter kept s at ec g told refl
+  laid : (w : List ℕ) (l : List ℤ) → w ≡ take k (drop at s) → handed k (map pos w) l ≡ afterEntries ACharacter kept k s at l
+  unfolding afterEntries valueOr
+  laid w l e = rw (so .end-is, so .values-are, e)
 
-  laid : (w : List ℕ) (l : List ℤ) → w ≡ take (k .value) (drop (k .next) s) → handed (k .value) (map pos w) l ≡ afterRun ACharacter kept s (runAt ACharacter kept s at) l
-  unfolding runAt afterRun countOf
-  laid w l e = rw (← ec, g, so .end-is, so .values-are, e)
-
-  pub string-laid : (l : List ℤ) {o : List ℤ} → o ≡ handed (length (take (k .next + k .value - k .next) (drop (k .next) s))) (map pos (take (k .next + k .value - k .next) (drop (k .next) s))) l → o ≡ afterRun ACharacter kept s (runAt ACharacter kept s at) l
-  string-laid l e =
-      let n = k .value in
-      let z : k .next + n - k .next ≡ n = omega arith in
-      let w = take n (drop (k .next) s) in
-      let room : n ≤ length (drop (k .next) s) = omega (arith, length-drop (k .next) s, ahead-room kept n s (k .next) er t) in
-      let long : length w ≡ n = length-take-le n (drop (k .next) s) room in
+  pub characters-laid : (l : List ℤ) {o : List ℤ} → o ≡ handed (length (take (at + k - at) (drop at s))) (map pos (take (at + k - at) (drop at s))) l → o ≡ afterEntries ACharacter kept k s at l
+  characters-laid l e =
+      let z : at + k - at ≡ k = omega arith in
+      let w = take k (drop at s) in
+      let room : k ≤ length (drop at s) = omega (arith, length-drop at s, ahead-room kept k s at er t) in
+      let long : length w ≡ k = length-take-le k (drop at s) room in
       (rw z at e) ∙ ap (λ (m : ℕ). handed m (map pos w) l) long ∙ laid w l refl
 
-  pub string-counts : length s < 2 ^ 64 → k .next + k .value < 2 ^ 64
-  string-counts h = omega (arith, h, ahead-room kept (k .value) s (k .next) er t)
+  pub characters-few : length s < 2 ^ 64 → at + k < 2 ^ 64
+  characters-few h = omega (arith, h, ahead-room kept k s at er t)
 
-pub ruleset strings = (ahead-room, string-whole, string-laid)
+pub ruleset strings = (ahead-room, characters-end, characters-laid)
 
 -- what is read of the kind of entry that it is
-module _ (kept : Remembered) (s : List ℕ) (at : ℕ) {e : Entry} (g : e ≡ ACharacter) where
-  pub string-run : {q : Answer CountedRun} → q ≡ runAt ACharacter kept s at → q ≡ runAt e kept s at
-  string-run j = rw g j
+module _ (kept : Remembered) (k : ℕ) (s : List ℕ) (at : ℕ) {e : Entry} (g : e ≡ ACharacter) where
+  pub kind-end : {q : Answer ℕ} → q ≡ entriesEnd ACharacter kept k s at → q ≡ entriesEnd e kept k s at
+  kind-end j = rw g j
 
-  pub string-left : (l : List ℤ) {o : List ℤ} → o ≡ afterRun ACharacter kept s (runAt ACharacter kept s at) l → o ≡ afterRun e kept s (runAt e kept s at) l
-  string-left l j = rw g j
+  pub kind-left : (l : List ℤ) {o : List ℤ} → o ≡ afterEntries ACharacter kept k s at l → o ≡ afterEntries e kept k s at l
+  kind-left l j = rw g j

@@ -8,7 +8,7 @@ use lib.Seq.{sets}
 use lib.IntN.{ℤ, pos}
 use Rattle.memory.specs.declared.Remembered.{Remembered}
 use Rattle.refusals.specs.Refusals.{numberOf}
-use Rattle.refusals.specs.Answers.{Answer, done, refused, Read, then, pick, every, endsAfter, allAfter}
+use Rattle.refusals.specs.Answers.{Answer, done, refused, Read, then, pick, every, valueOr, endsAfter, allAfter}
 use Rattle.wire.specs.Taking.{byteAt, isItself}
 use Rattle.numbers.specs.Integers.{integerAt}
 use Rattle.numbers.specs.Counts.{countAt}
@@ -58,6 +58,10 @@ runAt e kept s at =
 -- k entries stand at the front of a lent list that has room for all of them; any other list is as it was
 unfoldable pub handed : ℕ → List ℤ → List ℤ → List ℤ
 handed k es l = pick (leb k (length l)) (sets l 0 es) l
+
+-- the lent list behind k entries that come to their end, or are refused
+unfoldable pub afterEntries : Entry → Remembered → ℕ → List ℕ → ℕ → List ℤ → List ℤ
+afterEntries e kept k s at l = valueOr l (λ (n : ℕ). handed k (entryValues e kept k s at) l) (entriesEnd e kept k s at)
 
 -- the lent list behind a counted one that is whole, or refused
 unfoldable pub afterRun : Entry → Remembered → List ℕ → Answer CountedRun → List ℤ → List ℤ

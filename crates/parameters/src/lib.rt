@@ -9,7 +9,7 @@ ghost use lib.IntN.{pos};
 ghost use Rattle.refusals.specs.Answers.{done};
 ghost use Rattle.table.specs.Table.{oneInteger, twoIntegers, threeIntegers, onePoint, twoPoints, aReal, twoCharacters, kindMeant};
 ghost use Rattle.numbers.specs.Integers.{integerOf};
-ghost use Rattle.parameters.specs.Entries.{entryAt, entryValues, entriesEndOf, entriesEnd, runOf, runAt, handed, afterRun, charactersAhead};
+ghost use Rattle.parameters.specs.Entries.{entryAt, entryValues, entriesEndOf, entriesEnd, afterEntries, runOf, runAt, handed, afterRun, charactersAhead};
 ghost use Rattle.parameters.specs.Shapes.{shapeOf, listShape, integerThenListShape, listOf, number, valuesOf, tailOf, lastPoint, tailMeant, pointMeant};
 ghost use Rattle.parameters.specs.Numbers.{Holds};
 ghost use Rattle.parameters.specs.Looking.{twoEntriesOf, twoEntriesAt, parsedAs, lookOf, parametersAt, afterLook};
@@ -133,7 +133,27 @@ fn read_entry(kept: Remembered, entry: Entry, s: &[u8], at: usize) -> IntegerRea
     }
 }
 
-// So many entries from `at` on, into the front of the list: where they end, or the first that is refused.
+// So many entries from `at` on: where they end, or the first that is refused.
+fn pass_entries(kept: Remembered, entry: Entry, count: usize, s: &[u8], at: usize) -> EntriesEnd
+    ensures { λ r. ⌜ entriesEndOf r ≡ entriesEnd entry kept count (now (s .entry)) at ⌝ }
+{
+    let mut i = 0;
+    let mut pos = at;
+    while i < count {
+        match read_entry(kept, entry, s, pos) {
+            IntegerRead::Integer(taken) => {
+                pos = taken.next;
+                i = i + 1;
+            }
+            IntegerRead::Refused(e, p) => {
+                return EntriesEnd::Refused(e, p);
+            }
+        }
+    }
+    EntriesEnd::End(pos)
+}
+
+// The same, with their values into the front of the list.
 fn read_entries(
     kept: Remembered,
     entry: Entry,
@@ -179,28 +199,25 @@ fn hand_over(entries: &[i32; 256], count: usize, list: &mut [i32])
     }
 }
 
-// A count and that many entries, one by one, which go to the list if they are whole and it has room for all of them.
-fn run_by_entries(kept: Remembered, entry: Entry, s: &[u8], at: usize, list: &mut [i32]) -> RunRead
-    ensures { λ r. ⌜ (runOf r ≡ runAt entry kept (now (s .entry)) at) × (now (list .exit) ≡ afterRun entry kept (now (s .entry)) (runAt entry kept (now (s .entry)) at) (now (list .entry))) ⌝ }
+// So many entries from `at` on, which go to the list if they are whole and it has room for all of them.
+fn hand_entries(
+    kept: Remembered,
+    entry: Entry,
+    count: usize,
+    s: &[u8],
+    at: usize,
+    list: &mut [i32],
+) -> EntriesEnd
+    requires { ⌜ count ≤ 256 ⌝ }
+    ensures { λ r. ⌜ (entriesEndOf r ≡ entriesEnd entry kept count (now (s .entry)) at) × (now (list .exit) ≡ afterEntries entry kept count (now (s .entry)) at (now (list .entry))) ⌝ }
 {
-    match numbers::read_count(kept, s, at) {
-        CountRead::Count(taken) => {
-            let count = taken.value;
-            let start = taken.next;
-            let mut entries = [0; 256];
-            match read_entries(kept, entry, count, s, start, &mut entries) {
-                EntriesEnd::End(n) => {
-                    hand_over(&entries, count, list);
-                    let run = Run {
-                        start: start,
-                        count: count,
-                    };
-                    RunRead::Counted(run, n)
-                }
-                EntriesEnd::Refused(e, p) => RunRead::Refused(e, p),
-            }
+    let mut entries = [0; 256];
+    match read_entries(kept, entry, count, s, at, &mut entries) {
+        EntriesEnd::End(n) => {
+            hand_over(&entries, count, list);
+            EntriesEnd::End(n)
         }
-        CountRead::Refused(e, p) => RunRead::Refused(e, p),
+        EntriesEnd::Refused(e, p) => EntriesEnd::Refused(e, p),
     }
 }
 
@@ -235,36 +252,66 @@ fn characters_ahead(kept: Remembered, count: usize, s: &[u8], at: usize) -> bool
     wire::are_themselves(mode, &s[at..end])
 }
 
-// A string, straight from its bytes where these are taken as they stand; where one is not, from its count on once more, character by character.
-fn read_string(kept: Remembered, s: &[u8], at: usize, list: &mut [i32]) -> RunRead
-    ensures { λ r. ⌜ (runOf r ≡ runAt Entry.ACharacter kept (now (s .entry)) at) × (now (list .exit) ≡ afterRun Entry.ACharacter kept (now (s .entry)) (runAt Entry.ACharacter kept (now (s .entry)) at) (now (list .entry))) ⌝ }
+// So many characters, straight from their bytes where each is taken as it stands.
+fn hand_characters(
+    kept: Remembered,
+    count: usize,
+    s: &[u8],
+    at: usize,
+    list: &mut [i32],
+) -> EntriesEnd
+    requires { ⌜ count ≤ 256 ⌝ }
+    ensures { λ r. ⌜ (entriesEndOf r ≡ entriesEnd Entry.ACharacter kept count (now (s .entry)) at) × (now (list .exit) ≡ afterEntries Entry.ACharacter kept count (now (s .entry)) at (now (list .entry))) ⌝ }
+{
+    if characters_ahead(kept, count, s, at) {
+        let end = at + count;
+        lay_characters(&s[at..end], list);
+        return EntriesEnd::End(end);
+    }
+    hand_entries(kept, Entry::ACharacter, count, s, at, list)
+}
+
+// So many entries, which are only passed over where the list has no room for them.
+fn entries_into(
+    kept: Remembered,
+    entry: Entry,
+    count: usize,
+    s: &[u8],
+    at: usize,
+    list: &mut [i32],
+) -> EntriesEnd
+    requires { ⌜ count ≤ 256 ⌝ }
+    ensures { λ r. ⌜ (entriesEndOf r ≡ entriesEnd entry kept count (now (s .entry)) at) × (now (list .exit) ≡ afterEntries entry kept count (now (s .entry)) at (now (list .entry))) ⌝ }
+{
+    if count > list.len() {
+        return pass_entries(kept, entry, count, s, at);
+    }
+    match entry {
+        Entry::AnInteger => hand_entries(kept, entry, count, s, at, list),
+        Entry::ACharacter => hand_characters(kept, count, s, at, list),
+    }
+}
+
+// A count and that many entries: a string or an array.
+fn read_run(kept: Remembered, entry: Entry, s: &[u8], at: usize, list: &mut [i32]) -> RunRead
+    ensures { λ r. ⌜ (runOf r ≡ runAt entry kept (now (s .entry)) at) × (now (list .exit) ≡ afterRun entry kept (now (s .entry)) (runAt entry kept (now (s .entry)) at) (now (list .entry))) ⌝ }
 {
     match numbers::read_count(kept, s, at) {
         CountRead::Count(taken) => {
             let count = taken.value;
             let start = taken.next;
-            if characters_ahead(kept, count, s, start) {
-                let end = start + count;
-                lay_characters(&s[start..end], list);
-                let run = Run {
-                    start: start,
-                    count: count,
-                };
-                return RunRead::Counted(run, end);
+            match entries_into(kept, entry, count, s, start, list) {
+                EntriesEnd::End(n) => {
+                    let run = Run {
+                        start: start,
+                        count: count,
+                    };
+                    RunRead::Counted(run, n)
+                }
+                EntriesEnd::Refused(e, p) => RunRead::Refused(e, p),
             }
-            run_by_entries(kept, Entry::ACharacter, s, at, list)
         }
         CountRead::Refused(e, p) => RunRead::Refused(e, p),
-    }
-}
-
-// A string or an array.
-fn read_run(kept: Remembered, entry: Entry, s: &[u8], at: usize, list: &mut [i32]) -> RunRead
-    ensures { λ r. ⌜ (runOf r ≡ runAt entry kept (now (s .entry)) at) × (now (list .exit) ≡ afterRun entry kept (now (s .entry)) (runAt entry kept (now (s .entry)) at) (now (list .entry))) ⌝ }
-{
-    match entry {
-        Entry::AnInteger => run_by_entries(kept, entry, s, at, list),
-        Entry::ACharacter => read_string(kept, s, at, list),
     }
 }
 

@@ -1,19 +1,13 @@
-use Rattle.parameters.proofs.Entering.{runs, strings, string-counts}
+use Rattle.parameters.proofs.Entering.{strings, characters-few}
 use borrow.Author.Needs.{needs}
-use Rattle.parameters.proofs.read_string.Statement.{statement}
-use Rattle.parameters.proofs.read_string.Tie as tie
-
-read-count-requires : tie.Need-read-count-requires
-read-count-requires c κs = search needs
-
-enum-known-taken : tie.Need-enum-known-taken
-enum-known-taken c = search needs
+use Rattle.parameters.proofs.hand_characters.Statement.{statement}
+use Rattle.parameters.proofs.hand_characters.Tie as tie
 
 characters-ahead-requires : tie.Need-characters-ahead-requires
 characters-ahead-requires c κs = search needs
 
 add-end : tie.Need-add-end
-add-end c = search (needs, string-counts)
+add-end c = search (needs, characters-few)
 
 sub-lay-characters : tie.Need-sub-lay-characters
 sub-lay-characters c = search needs
@@ -33,11 +27,8 @@ same-length c = search needs
 returns : tie.Need-returns
 returns c = search (needs, strings)
 
-run-by-entries-requires : tie.Need-run-by-entries-requires
-run-by-entries-requires c κs = search needs
-
-enum-known-e : tie.Need-enum-known-e
-enum-known-e c = search needs
+hand-entries-requires : tie.Need-hand-entries-requires
+hand-entries-requires c κs = search needs
 
 same-length-2 : tie.Need-same-length-2
 same-length-2 c = search needs
@@ -45,15 +36,10 @@ same-length-2 c = search needs
 returns-2 : tie.Need-returns-2
 returns-2 c = search needs
 
-returns-3 : tie.Need-returns-3
-returns-3 c = search (needs, runs)
-
-pub read-string-spec : {M : Type 1} → statement M
-read-string-spec =
+pub hand-characters-spec : {M : Type 1} → statement M
+hand-characters-spec =
     tie.close
     (tie.spec
-    read-count-requires
-    enum-known-taken
     characters-ahead-requires
     add-end
     sub-lay-characters
@@ -62,8 +48,6 @@ read-string-spec =
     lay-characters-requires
     same-length
     returns
-    run-by-entries-requires
-    enum-known-e
+    hand-entries-requires
     same-length-2
-    returns-2
-    returns-3)
+    returns-2)
