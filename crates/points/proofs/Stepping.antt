@@ -20,7 +20,7 @@ use Rattle.wire.specs.Taking.{byteAt, byteOf}
 use Rattle.points.specs.declared.PointRead.the-variants as PointRead
 use Rattle.points.specs.declared.PointBytes.{PointBytes}
 use Rattle.points.specs.Layout.{Inside, bytesOf, coordinates}
-use Rattle.points.specs.Reading.{byKind, endsAt, withHiY, withLoX, pointOf, afterHiY, pointFrom, pointAt}
+use Rattle.points.specs.Reading.{byKind, endsAt, withHiY, withExtra, withLoY, withLoX, pointOf, afterLoY, afterUpper, afterHiY, pointFrom, pointAt}
 
 abbrev readOf : TakenByte → Read ℕ
 readOf b = record { value = b .value; place = b .place; next = b .next }
@@ -64,6 +64,26 @@ module _ (kept : Remembered) (s : List ℕ) (at : ℕ) {r : ByteRead} (e : byteO
 
 pub started : (kept : Remembered) (b : PointBytes) (s : List ℕ) (at : ℕ) {rest q : Answer (Read Point)} → rest ≡ pointFrom kept b s at → q ≡ rest → q ≡ pointFrom kept b s at
 started kept b s at e j = j ∙ e
+
+-- ---- Extra and LoY, or LoY alone: the rest is read alike
+
+module _ (kept : Remembered) (s : List ℕ) (at : ℕ) {r : ByteRead} (e : byteOf r ≡ byteAt kept s at) (b : PointBytes) (u : ℕ) where
+  pub a-second : {c : TakenByte} → r ≡ ByteRead.Byte c → 96 ≤ c .value → afterLoY kept (withLoY (withExtra b u) (c .value)) s (c .next) ≡ afterUpper kept b u s at
+  unfolding afterUpper byKind byteOf
+  a-second {c} g l =
+      let m : 64 ≤ c .value = omega arith in
+      rw (← e, g, le-ltb (c .value) 64 m, le-ltb (c .value) 96 l)
+
+  pub no-second : {c : TakenByte} → r ≡ ByteRead.Byte c → c .value < 96 → afterLoY kept (withLoY b u) s at ≡ afterUpper kept b u s at
+  unfolding afterUpper afterLoY byKind byteOf
+  no-second {c} g l = rw (← e, g, lt-ltb (c .value) 96 l)
+
+  pub no-more : {x : Refusal} {p : ℕ} → r ≡ ByteRead.Refused x p → afterLoY kept b s at ≡ afterUpper kept b u s at
+  unfolding afterUpper afterLoY byKind byteOf
+  no-more g = rw (← e, g)
+
+pub read-on : (kept : Remembered) (b : PointBytes) (u : ℕ) (s : List ℕ) (at : ℕ) {rest q : Answer (Read Point)} → rest ≡ afterUpper kept b u s at → q ≡ rest → q ≡ afterUpper kept b u s at
+read-on kept b u s at e j = j ∙ e
 
 -- ---- the bytes of a point, and the point of its bytes
 

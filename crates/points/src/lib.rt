@@ -37,7 +37,7 @@ pub struct PointBytes {
     pub lox: u8,
 }
 
-// The bytes in force behind HiY, and where the rest of a point begins.
+// The bytes in force, and where the rest of a point begins.
 struct Start {
     bytes: PointBytes,
     from: usize,
@@ -163,28 +163,41 @@ fn after_lo_y(kept: Remembered, b: PointBytes, s: &[u8], at: usize) -> PointRead
     }
 }
 
-// Behind a first byte 96..127, `upper`: it is Extra if a second one follows, and LoY if not.
-fn after_upper(kept: Remembered, b: PointBytes, upper: u8, s: &[u8], at: usize) -> PointRead
-    ensures { λ r. ⌜ pointOf r ≡ afterUpper kept b upper (now (s .entry)) at ⌝ }
+// Behind a first byte 96..127, `upper`: it is Extra if a second one follows, and LoY if not. Where it is LoY, what follows is read as
+// behind it.
+fn past_upper(kept: Remembered, b: PointBytes, upper: u8, s: &[u8], at: usize) -> Start
+    ensures { λ r. ⌜ afterLoY kept (r .bytes) (now (s .entry)) (r .from) ≡ afterUpper kept b upper (now (s .entry)) at ⌝ }
 {
     let mut more = b;
     match wire::take(kept, s, at) {
         ByteRead::Byte(byte) => {
-            if byte.value < 64 {
-                more.loy = upper;
-                more.hix = byte.value;
-                return last(kept, more, s, byte.next);
-            }
             if byte.value < 96 {
                 more.loy = upper;
-                return ends(more, byte.value, byte.place, byte.next);
+                return Start {
+                    bytes: more,
+                    from: at,
+                };
             }
             more.extra = upper;
             more.loy = byte.value;
-            after_lo_y(kept, more, s, byte.next)
+            Start {
+                bytes: more,
+                from: byte.next,
+            }
         }
-        ByteRead::Refused(e, p) => PointRead::Refused(e, p),
+        ByteRead::Refused(_, _) => Start {
+            bytes: more,
+            from: at,
+        },
     }
+}
+
+fn after_upper(kept: Remembered, b: PointBytes, upper: u8, s: &[u8], at: usize) -> PointRead
+    ensures { λ r. ⌜ pointOf r ≡ afterUpper kept b upper (now (s .entry)) at ⌝ }
+{
+    let start = past_upper(kept, b, upper, s, at);
+    let bytes = start.bytes;
+    after_lo_y(kept, bytes, s, start.from)
 }
 
 fn after_hi_y(kept: Remembered, b: PointBytes, s: &[u8], at: usize) -> PointRead
