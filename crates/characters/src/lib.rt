@@ -1,9 +1,8 @@
 // Characters as entries of a lent list of numbers: 32 to 127. Entries as bytes, and bytes as entries.
 ghost use mathlib.Core.Path.{_≡_};
-ghost use Prim.Native.Nat.{_%_};
-ghost use lib.IntN.{natAbs, pos};
+ghost use lib.IntN.{pos};
 ghost use lib.Seq.{sets};
-ghost use Rattle.characters.specs.Characters.{isCharacter, areCharacters, lowBytes};
+ghost use Rattle.characters.specs.Characters.{isCharacter, areCharacters, lowEight, lowBytes};
 
 pub fn is_character(v: i32) -> bool
     ensures { λ r. ⌜ r ≡ isCharacter v ⌝ }
@@ -17,11 +16,11 @@ pub fn are_characters(list: &[i32]) -> bool
     ranges::are_within(32, 127, list)
 }
 
-// The byte of an entry; an entry that is no byte loses what does not fit.
+// The byte of an entry: its lowest eight bits.
 pub fn byte_of(v: i32) -> u8
-    ensures { λ r. ⌜ r ≡ natAbs v % 256 ⌝ }
+    ensures { λ r. ⌜ r ≡ lowEight v ⌝ }
 {
-    (signs::magnitude(v) % 256) as u8
+    (v & 255) as u8
 }
 
 pub fn entry_of(b: u8) -> i32

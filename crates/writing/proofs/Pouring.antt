@@ -1,5 +1,5 @@
 -- The bytes of a command, poured part by part.
-use Prim.Native.Nat.{ℕ, _+_, _%_, _≤_}
+use Prim.Native.Nat.{ℕ, _+_, _≤_}
 use mathlib.Core.Path.{_≡_, refl, sym, _∙_, ap}
 use mathlib.Core.Bool.{Bool, true, _&&_}
 use mathlib.Core.List.{List, [], _∷_, _++_, append-nil, append-assoc}
@@ -19,7 +19,7 @@ use Rattle.numbers.specs.Integers.{spell}
 use Rattle.numbers.proofs.Shortest.{integer-few}
 use Rattle.points.specs.Writing.{spellPoint}
 use Rattle.points.proofs.Shortest.{point-few}
-use Rattle.characters.specs.Characters.{isCharacter}
+use Rattle.characters.specs.Characters.{isCharacter, lowEight}
 use Rattle.characters.proofs.Entries.{a-byte}
 use Rattle.parameters.specs.declared.Entry.{Entry}
 use Rattle.parameters.specs.declared.Entry.the-variants.{AnInteger, ACharacter}
@@ -55,11 +55,11 @@ module _ (kept : Remembered) (e : Entry) (v x : ℤ) (ok : isEntry e v ≡ true)
       let n : r ≡ length (sent kept (spell v)) = er ∙ ap length q in
       rw g (record { size = n; stand = eo ∙ ap (λ (y : List ℕ). sets l at y) q; few = omega (arith, n, integer-few kept v c) })
 
-  pub character-poured : {b : ℕ} → e ≡ ACharacter → b ≡ natAbs x % 256 → r ≡ length (sent kept (b ∷ [])) → o ≡ sets l at (sent kept (b ∷ [])) → x ≡ v → Poured (spellEntry e kept v) 4 l o at r
+  pub character-poured : {b : ℕ} → e ≡ ACharacter → b ≡ lowEight x → r ≡ length (sent kept (b ∷ [])) → o ≡ sets l at (sent kept (b ∷ [])) → x ≡ v → Poured (spellEntry e kept v) 4 l o at r
   unfolding spellEntry
   character-poured {b} g eb er eo i =
       let c : isCharacter v ≡ true = rw g at ok in
-      let q : b ≡ natAbs v = eb ∙ ap (λ (y : ℤ). natAbs y % 256) i ∙ a-byte 32 v c in
+      let q : b ≡ natAbs v = eb ∙ ap lowEight i ∙ a-byte 32 v c in
       let n : r ≡ length (sent kept (natAbs v ∷ [])) = er ∙ ap (λ (y : ℕ). length (sent kept (y ∷ []))) q in
       rw g (record { size = n; stand = eo ∙ ap (λ (y : ℕ). sets l at (sent kept (y ∷ []))) q; few = omega (arith, n, one-most kept (natAbs v)) })
 
