@@ -21,7 +21,7 @@ abbrev pub lowEight : ℤ → ℕ
 lowEight (pos n) = n % 256
 lowEight (negsuc n) = 255 - n % 256
 
--- entries as bytes where one may be none
+-- entries as bytes, where an entry may be no byte
 abbrev pub lowBytes : List ℤ → List ℕ
 lowBytes vs = map lowEight vs
 

@@ -36,7 +36,7 @@ use Rattle.parameters.specs.declared.EntriesEnd.{EntriesEnd}
 use Rattle.parameters.specs.declared.EntriesEnd.the-variants.{End}
 use Rattle.parameters.specs.declared.RunRead.{RunRead}
 use Rattle.parameters.specs.declared.RunRead.the-variants.{Counted}
-use Rattle.parameters.specs.Entries.{entryAt, entriesEnd, entryValues, entriesEndOf, CountedRun, runOf, runAt, handed, afterRun, afterEntries, charactersAhead}
+use Rattle.parameters.specs.Entries.{entryAt, entriesEnd, entryValues, entriesEndOf, CountedRun, runOf, runAt, handed, afterRun, listBehind, charactersAhead}
 
 -- ---- one entry
 
@@ -97,7 +97,7 @@ module _ (e : Entry) (kept : Remembered) (s : List ℕ) (at count i n : ℕ) (f 
 
 pub ruleset passings = (passing-none, passing-end, passing-more, passing-cut)
 
--- and fills the list as the whole does
+-- what is left, read from here, ends where the whole ends and fills the list as the whole does
 pub record Reading (e : Entry) (kept : Remembered) (s : List ℕ) (at count : ℕ) (l₀ l : List ℤ) (i n : ℕ) : Type 0 where
   pub passing : Passing e kept s at count i n
   pub filling : many.Filling (entryAt e kept s) at count l₀ l i n
@@ -137,10 +137,6 @@ pub record Handing (es : List ℤ) (k : ℕ) (l₀ l : List ℤ) (i : ℕ) : Typ
   pub long : length l ≡ length l₀
   pub front : l ≡ paste l₀ 0 es i
 
-pub no-room : (es : List ℤ) (k : ℕ) (l : List ℤ) → length l < k → l ≡ handed k (take k es) l
-unfolding handed
-no-room es k l h = rw (lt-leb k (length l) h)
-
 pub handing-none : (es : List ℤ) (k : ℕ) (l : List ℤ) → k ≤ length l → Handing es k l l 0
 handing-none es k l h = record { upto = omega arith; room = h; long = refl; front = paste-zero l 0 es }
 
@@ -160,15 +156,16 @@ module _ (es : List ℤ) (k : ℕ) (l₀ l : List ℤ) (i : ℕ) (f : Handing es
             ∙ ap (λ (n : ℕ). paste l₀ 0 es n) (sym (add-one i));
       }
 
-  pub handing-end : k ≤ i → l ≡ handed k (take k es) l₀
-  unfolding handed
+  pub handing-end : k ≤ i → l ≡ sets l₀ 0 (take k es)
   handing-end h =
       let z : i ≡ k = omega (arith, f .upto) in
       let long : length (take k es) ≡ k = length-take-le k es there in
-      rw (le-leb k (length l₀) (f .room))
-      (f .front ∙ ap (λ (n : ℕ). paste l₀ 0 es n) z ∙ ap (λ (n : ℕ). take 0 l₀ ++ take k es ++ drop (0 + n) l₀) (sym long) ∙ sym (sets-eq (take k es) l₀ 0 (omega (arith, f .room, long))))
+      f .front
+      ∙ ap (λ (n : ℕ). paste l₀ 0 es n) z
+      ∙ ap (λ (n : ℕ). take 0 l₀ ++ take k es ++ drop (0 + n) l₀) (sym long)
+      ∙ sym (sets-eq (take k es) l₀ 0 (omega (arith, f .room, long)))
 
-pub ruleset handings = (no-room, handing-none, handing-more, handing-end)
+pub ruleset handings = (handing-none, handing-more, handing-end)
 
 -- ---- reading them into an array, and handing them over from it
 
@@ -190,8 +187,8 @@ module _ (e : Entry) (kept : Remembered) (k : ℕ) (s : List ℕ) (at : ℕ) whe
   pub stored-there : (z : List ℤ) {es : List ℤ} → k ≤ 256 → length z ≡ 256 → es ≡ sets z 0 (entryValues e kept k s at) → k ≤ length es
   stored-there z h y q = rw (q, length-sets z 0 (entryValues e kept k s at), y) h
 
-  pub none-handed : (l : List ℤ) → length l < k → l ≡ afterEntries e kept k s at l
-  unfolding afterEntries handed valueOr
+  pub none-handed : (l : List ℤ) → length l < k → l ≡ listBehind e kept k s at l
+  unfolding listBehind handed valueOr
   none-handed l h = go (entriesEnd e kept k s at)
     where
       go : (q : Answer ℕ) → l ≡ valueOr l (λ (n : ℕ). pick (leb k (length l)) (sets l 0 (entryValues e kept k s at)) l) q
@@ -202,21 +199,24 @@ module _ (e : Entry) (kept : Remembered) (k : ℕ) (s : List ℕ) (at : ℕ) whe
     pub end-handed : {u : EntriesEnd} → t ≡ u → entriesEndOf u ≡ entriesEnd e kept k s at
     end-handed h = sym (ap entriesEndOf h) ∙ et
 
-    pub cut-handed : (l : List ℤ) {x : Refusal} {q : ℕ} → t ≡ EntriesEnd.Refused x q → l ≡ afterEntries e kept k s at l
-    unfolding afterEntries entriesEndOf valueOr
+    pub cut-handed : (l : List ℤ) {x : Refusal} {q : ℕ} → t ≡ EntriesEnd.Refused x q → l ≡ listBehind e kept k s at l
+    unfolding listBehind entriesEndOf valueOr
     cut-handed l h = rw (← et, h)
 
     ended : {m : ℕ} → t ≡ End m → entriesEnd e kept k s at ≡ done m
     unfolding entriesEndOf
     ended h = sym et ∙ rw h
 
-    pub all-handed : (l z : List ℤ) {es o : List ℤ} {m : ℕ} → t ≡ End m → k ≤ 256 → length z ≡ 256 → es ≡ sets z 0 (entryValues e kept k s at) → o ≡ handed k (take k es) l → o ≡ afterEntries e kept k s at l
-    unfolding afterEntries valueOr
-    all-handed l z h b y q j =
+    pub all-handed : (l z : List ℤ) {es o : List ℤ} {m : ℕ} → t ≡ End m → k ≤ 256 → k ≤ length l → length z ≡ 256 → es ≡ sets z 0 (entryValues e kept k s at) → o ≡ sets l 0 (take k es) → o ≡ listBehind e kept k s at l
+    unfolding listBehind handed valueOr
+    all-handed l z h b room y q j =
         let all = entryValues e kept k s at in
         let long : length all ≡ k = done-of (λ x. length (allAfter (entryAt e kept s) k at) ≡ k) (all-read (entryAt e kept s) k at) (ended h) in
         let front = front-is all z k long (omega (arith, y, b)) in
-        j ∙ ap (λ (w : List ℤ). handed k (take k w) l) q ∙ ap (λ (w : List ℤ). handed k w l) front ∙ rw (ended h)
+        j
+        ∙ ap (λ (w : List ℤ). sets l 0 (take k w)) q
+        ∙ ap (λ (w : List ℤ). sets l 0 w) front
+        ∙ rw (ended h, le-leb k (length l) room)
 
 pub ruleset handed-over = (stored-there, none-handed, end-handed, cut-handed, all-handed)
 
@@ -246,8 +246,8 @@ module _ (e : Entry) (kept : Remembered) (s : List ℕ) (at : ℕ) {c : CountRea
   kept-no l g = rw (← ec, g)
 
   module _ {k : TakenCount} (g : c ≡ Count k) where
-    pub run-left : (l : List ℤ) {o : List ℤ} → o ≡ afterEntries e kept (k .value) s (k .next) l → o ≡ afterRun e kept s (runAt e kept s at) l
-    unfolding runAt countOf afterEntries
+    pub run-left : (l : List ℤ) {o : List ℤ} → o ≡ listBehind e kept (k .value) s (k .next) l → o ≡ afterRun e kept s (runAt e kept s at) l
+    unfolding runAt countOf listBehind
     run-left l j = j ∙ run-list e kept (k .value) s (k .next) l (entriesEnd e kept (k .value) s (k .next)) ∙ rw (← ec, g)
 
     module _ {t : EntriesEnd} (et : entriesEndOf t ≡ entriesEnd e kept (k .value) s (k .next)) where
@@ -317,28 +317,23 @@ pub ruleset aheads = (ahead-past, ahead-short, ahead-so, ahead-room)
 
 -- ---- into the front of the list
 
-module _ (w : List ℕ) (l : List ℤ) where
-  pub laying-no : length l < length w → l ≡ handed (length w) (map pos w) l
-  unfolding handed
-  laying-no h = rw (lt-leb (length w) (length l) h)
-
-  pub laying-none : length w ≤ length l → Handing (map pos w) (length w) l l 0
-  laying-none h = handing-none (map pos w) (length w) l h
+pub laying-none : (w : List ℕ) (l : List ℤ) → length w ≤ length l → Handing (map pos w) (length w) l l 0
+laying-none w l h = handing-none (map pos w) (length w) l h
 
 module _ (w : List ℕ) (l₀ l : List ℤ) (i : ℕ) (f : Handing (map pos w) (length w) l₀ l i) where
   pub laying-more : (x : ℤ) → i < length w → x ≡ pos (getD w i 0) → Handing (map pos w) (length w) l₀ (set l i x) (i + 1)
   laying-more x h e =
       handing-more (map pos w) (length w) l₀ l i f (omega (arith, length-map w pos)) (pos 0) x h (e ∙ sym (List·getD-map pos w i 0))
 
-  pub laying-end : length w ≤ i → l ≡ handed (length w) (map pos w) l₀
+  pub laying-end : length w ≤ i → l ≡ sets l₀ 0 (map pos w)
   laying-end h =
       let long : length (map pos w) ≤ length w = omega (arith, length-map w pos) in
       handing-end (map pos w) (length w) l₀ l i f (omega (arith, length-map w pos)) h
-      ∙ ap (λ (es : List ℤ). handed (length w) es l₀) (take-all (length w) (map pos w) long)
+      ∙ ap (λ (es : List ℤ). sets l₀ 0 es) (take-all (length w) (map pos w) long)
 
-pub ruleset layings = (laying-no, laying-none, laying-more, laying-end)
+pub ruleset layings = (laying-none, laying-more, laying-end)
 
--- ---- so many of them
+-- ---- so many characters, as they stand
 
 module _ (kept : Remembered) (k : ℕ) (s : List ℕ) (at : ℕ) {r : Bool} (er : r ≡ charactersAhead kept k s at) (t : r ≡ true) where
   so : AsTheyStand kept k s at
@@ -348,27 +343,35 @@ module _ (kept : Remembered) (k : ℕ) (s : List ℕ) (at : ℕ) {r : Bool} (er 
   unfolding entriesEndOf
   characters-end = sym (so .end-is)
 
-  laid : (w : List ℕ) (l : List ℤ) → w ≡ take k (drop at s) → handed k (map pos w) l ≡ afterEntries ACharacter kept k s at l
-  unfolding afterEntries valueOr
-  laid w l e = rw (so .end-is, so .values-are, e)
+  -- the part of the bytes that is laid
+  abbrev part : List ℕ
+  part = take (at + k - at) (drop at s)
 
-  pub characters-laid : (l : List ℤ) {o : List ℤ} → o ≡ handed (length (take (at + k - at) (drop at s))) (map pos (take (at + k - at) (drop at s))) l → o ≡ afterEntries ACharacter kept k s at l
-  characters-laid l e =
-      let z : at + k - at ≡ k = omega arith in
-      let w = take k (drop at s) in
+  part-is : part ≡ take k (drop at s)
+  part-is = let z : at + k - at ≡ k = omega arith in rw z
+
+  part-long : length part ≡ k
+  part-long =
       let room : k ≤ length (drop at s) = omega (arith, length-drop at s, ahead-room kept k s at er t) in
-      let long : length w ≡ k = length-take-le k (drop at s) room in
-      (rw z at e) ∙ ap (λ (m : ℕ). handed m (map pos w) l) long ∙ laid w l refl
+      rw part-is (length-take-le k (drop at s) room)
+
+  pub characters-fit : (l : List ℤ) → k ≤ length l → length (take (at + k - at) (drop at s)) ≤ length l
+  characters-fit l h = rw part-long h
+
+  pub characters-laid : (l : List ℤ) {o : List ℤ} → k ≤ length l → o ≡ sets l 0 (map pos (take (at + k - at) (drop at s))) → o ≡ listBehind ACharacter kept k s at l
+  unfolding listBehind handed valueOr
+  characters-laid l h e =
+      e ∙ ap (λ (w : List ℕ). sets l 0 (map pos w)) part-is ∙ rw (so .end-is, so .values-are, le-leb k (length l) h)
 
   pub characters-few : length s < 2 ^ 64 → at + k < 2 ^ 64
   characters-few h = omega (arith, h, ahead-room kept k s at er t)
 
-pub ruleset strings = (ahead-room, characters-end, characters-laid)
+pub ruleset strings = (ahead-room, characters-end, characters-fit, characters-laid)
 
--- what is read of the kind of entry that it is
+-- what holds of characters holds of entries that are characters
 module _ (kept : Remembered) (k : ℕ) (s : List ℕ) (at : ℕ) {e : Entry} (g : e ≡ ACharacter) where
   pub kind-end : {q : Answer ℕ} → q ≡ entriesEnd ACharacter kept k s at → q ≡ entriesEnd e kept k s at
   kind-end j = rw g j
 
-  pub kind-left : (l : List ℤ) {o : List ℤ} → o ≡ afterEntries ACharacter kept k s at l → o ≡ afterEntries e kept k s at l
+  pub kind-left : (l : List ℤ) {o : List ℤ} → o ≡ listBehind ACharacter kept k s at l → o ≡ listBehind e kept k s at l
   kind-left l j = rw g j

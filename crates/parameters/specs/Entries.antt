@@ -60,8 +60,8 @@ unfoldable pub handed : ℕ → List ℤ → List ℤ → List ℤ
 handed k es l = pick (leb k (length l)) (sets l 0 es) l
 
 -- the lent list behind k entries that come to their end, or are refused
-unfoldable pub afterEntries : Entry → Remembered → ℕ → List ℕ → ℕ → List ℤ → List ℤ
-afterEntries e kept k s at l = valueOr l (λ (n : ℕ). handed k (entryValues e kept k s at) l) (entriesEnd e kept k s at)
+unfoldable pub listBehind : Entry → Remembered → ℕ → List ℕ → ℕ → List ℤ → List ℤ
+listBehind e kept k s at l = valueOr l (λ (n : ℕ). handed k (entryValues e kept k s at) l) (entriesEnd e kept k s at)
 
 -- the lent list behind a counted one that is whole, or refused
 unfoldable pub afterRun : Entry → Remembered → List ℕ → Answer CountedRun → List ℤ → List ℤ

@@ -1,5 +1,6 @@
 // The parameters of a command: read by kind, and what they hold. The entries of a string or an array are read into an array of their own: they come
-// last, and go to the lent list once all of them are known to be good. Characters that are all taken as they stand go there at once.
+// last, and go to the lent list once all of them are known to be good. Characters that are all taken as they stand go there at once. Where the list has
+// no room for them entries are only passed over.
 ghost use mathlib.Core.Path.{_≡_};
 ghost use mathlib.Core.List.{[], _∷_, map};
 ghost use Prim.Native.Nat.{_≤_};
@@ -9,7 +10,7 @@ ghost use lib.IntN.{pos};
 ghost use Rattle.refusals.specs.Answers.{done};
 ghost use Rattle.table.specs.Table.{oneInteger, twoIntegers, threeIntegers, onePoint, twoPoints, aReal, twoCharacters, kindMeant};
 ghost use Rattle.numbers.specs.Integers.{integerOf};
-ghost use Rattle.parameters.specs.Entries.{entryAt, entryValues, entriesEndOf, entriesEnd, afterEntries, runOf, runAt, handed, afterRun, charactersAhead};
+ghost use Rattle.parameters.specs.Entries.{entryAt, entryValues, entriesEndOf, entriesEnd, listBehind, runOf, runAt, afterRun, charactersAhead};
 ghost use Rattle.parameters.specs.Shapes.{shapeOf, listShape, integerThenListShape, listOf, number, valuesOf, tailOf, lastPoint, tailMeant, pointMeant};
 ghost use Rattle.parameters.specs.Numbers.{Holds};
 ghost use Rattle.parameters.specs.Looking.{twoEntriesOf, twoEntriesAt, parsedAs, lookOf, parametersAt, afterLook};
@@ -183,14 +184,11 @@ fn read_entries(
     EntriesEnd::End(pos)
 }
 
-// The first `count` entries into the front of the list, if it has room for all of them.
+// The first `count` entries into the front of the list.
 fn hand_over(entries: &[i32; 256], count: usize, list: &mut [i32])
-    requires { ⌜ (count ≤ 256) × (count ≤ length (now entries)) ⌝ }
-    ensures { λ _. ⌜ now (list .exit) ≡ handed count (take count (now (entries .entry))) (now (list .entry)) ⌝ }
+    requires { ⌜ (count ≤ 256) × ((count ≤ length (now entries)) × (count ≤ length (now list))) ⌝ }
+    ensures { λ _. ⌜ now (list .exit) ≡ sets (now (list .entry)) 0 (take count (now (entries .entry))) ⌝ }
 {
-    if count > list.len() {
-        return;
-    }
     let mut i = 0;
     while i < count {
         let v = entries[i];
@@ -199,7 +197,7 @@ fn hand_over(entries: &[i32; 256], count: usize, list: &mut [i32])
     }
 }
 
-// So many entries from `at` on, which go to the list if they are whole and it has room for all of them.
+// So many entries from `at` on, which go to the list if they are whole.
 fn hand_entries(
     kept: Remembered,
     entry: Entry,
@@ -208,8 +206,8 @@ fn hand_entries(
     at: usize,
     list: &mut [i32],
 ) -> EntriesEnd
-    requires { ⌜ count ≤ 256 ⌝ }
-    ensures { λ r. ⌜ (entriesEndOf r ≡ entriesEnd entry kept count (now (s .entry)) at) × (now (list .exit) ≡ afterEntries entry kept count (now (s .entry)) at (now (list .entry))) ⌝ }
+    requires { ⌜ (count ≤ 256) × (count ≤ length (now list)) ⌝ }
+    ensures { λ r. ⌜ (entriesEndOf r ≡ entriesEnd entry kept count (now (s .entry)) at) × (now (list .exit) ≡ listBehind entry kept count (now (s .entry)) at (now (list .entry))) ⌝ }
 {
     let mut entries = [0; 256];
     match read_entries(kept, entry, count, s, at, &mut entries) {
@@ -221,13 +219,11 @@ fn hand_entries(
     }
 }
 
-// Bytes that are taken as they stand, as entries into the front of the list, if it has room for all of them.
+// Bytes that are taken as they stand, as entries into the front of the list.
 fn lay_characters(w: &[u8], list: &mut [i32])
-    ensures { λ _. ⌜ now (list .exit) ≡ handed (length (now (w .entry))) (map pos (now (w .entry))) (now (list .entry)) ⌝ }
+    requires { ⌜ length (now w) ≤ length (now list) ⌝ }
+    ensures { λ _. ⌜ now (list .exit) ≡ sets (now (list .entry)) 0 (map pos (now (w .entry))) ⌝ }
 {
-    if w.len() > list.len() {
-        return;
-    }
     let mut i = 0;
     while i < w.len() {
         let b = w[i];
@@ -260,8 +256,8 @@ fn hand_characters(
     at: usize,
     list: &mut [i32],
 ) -> EntriesEnd
-    requires { ⌜ count ≤ 256 ⌝ }
-    ensures { λ r. ⌜ (entriesEndOf r ≡ entriesEnd Entry.ACharacter kept count (now (s .entry)) at) × (now (list .exit) ≡ afterEntries Entry.ACharacter kept count (now (s .entry)) at (now (list .entry))) ⌝ }
+    requires { ⌜ (count ≤ 256) × (count ≤ length (now list)) ⌝ }
+    ensures { λ r. ⌜ (entriesEndOf r ≡ entriesEnd Entry.ACharacter kept count (now (s .entry)) at) × (now (list .exit) ≡ listBehind Entry.ACharacter kept count (now (s .entry)) at (now (list .entry))) ⌝ }
 {
     if characters_ahead(kept, count, s, at) {
         let end = at + count;
@@ -281,7 +277,7 @@ fn entries_into(
     list: &mut [i32],
 ) -> EntriesEnd
     requires { ⌜ count ≤ 256 ⌝ }
-    ensures { λ r. ⌜ (entriesEndOf r ≡ entriesEnd entry kept count (now (s .entry)) at) × (now (list .exit) ≡ afterEntries entry kept count (now (s .entry)) at (now (list .entry))) ⌝ }
+    ensures { λ r. ⌜ (entriesEndOf r ≡ entriesEnd entry kept count (now (s .entry)) at) × (now (list .exit) ≡ listBehind entry kept count (now (s .entry)) at (now (list .entry))) ⌝ }
 {
     if count > list.len() {
         return pass_entries(kept, entry, count, s, at);

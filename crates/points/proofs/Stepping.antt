@@ -78,9 +78,9 @@ module _ (kept : Remembered) (s : List ℕ) (at : ℕ) {r : ByteRead} (e : byteO
   unfolding afterUpper afterLoY byKind byteOf
   no-second {c} g l = rw (← e, g, lt-ltb (c .value) 96 l)
 
-  pub no-more : {x : Refusal} {p : ℕ} → r ≡ ByteRead.Refused x p → afterLoY kept b s at ≡ afterUpper kept b u s at
+  pub no-byte-behind : {x : Refusal} {p : ℕ} → r ≡ ByteRead.Refused x p → afterLoY kept b s at ≡ afterUpper kept b u s at
   unfolding afterUpper afterLoY byKind byteOf
-  no-more g = rw (← e, g)
+  no-byte-behind g = rw (← e, g)
 
 pub read-on : (kept : Remembered) (b : PointBytes) (u : ℕ) (s : List ℕ) (at : ℕ) {rest q : Answer (Read Point)} → rest ≡ afterUpper kept b u s at → q ≡ rest → q ≡ afterUpper kept b u s at
 read-on kept b u s at e j = j ∙ e

@@ -163,8 +163,8 @@ fn after_lo_y(kept: Remembered, b: PointBytes, s: &[u8], at: usize) -> PointRead
     }
 }
 
-// Behind a first byte 96..127, `upper`: it is Extra if a second one follows, and LoY if not. Where it is LoY, what follows is read as
-// behind it.
+// Behind a first byte 96..127, `upper`: it is Extra if a second one follows, and LoY if not. A byte that is no second one is only looked at: it is
+// taken again behind LoY, and one that is refused is refused there again.
 fn past_upper(kept: Remembered, b: PointBytes, upper: u8, s: &[u8], at: usize) -> Start
     ensures { λ r. ⌜ afterLoY kept (r .bytes) (now (s .entry)) (r .from) ≡ afterUpper kept b upper (now (s .entry)) at ⌝ }
 {
@@ -192,6 +192,7 @@ fn past_upper(kept: Remembered, b: PointBytes, upper: u8, s: &[u8], at: usize) -
     }
 }
 
+// One way on behind Extra and LoY, as in `from_start`.
 fn after_upper(kept: Remembered, b: PointBytes, upper: u8, s: &[u8], at: usize) -> PointRead
     ensures { λ r. ⌜ pointOf r ≡ afterUpper kept b upper (now (s .entry)) at ⌝ }
 {

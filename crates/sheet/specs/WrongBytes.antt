@@ -274,6 +274,8 @@ wrong-copy-characters =
     ∷ laid-entries (pos 65 ∷ []) (9 ∷ 9 ∷ []) (9 ∷ 0 ∷ [])
     ∷ laid-entries (pos 65 ∷ []) (9 ∷ 9 ∷ []) (9 ∷ 1 ∷ [])
     ∷ laid-entries (pos 127 ∷ []) (9 ∷ 9 ∷ []) (9 ∷ 0 ∷ [])
+    -- the byte of an entry is its lowest eight bits, and not those of its magnitude
+    ∷ laid-entries (negsuc 0 ∷ []) (9 ∷ 9 ∷ []) (9 ∷ 1 ∷ [])
     ∷ []
 
 -- ---- all of them

@@ -10,9 +10,6 @@ Inv-loop entries count list₀ i₀ list i = Handing entries count list₀ list 
 abbrev μ-loop : tie.MeasureT-loop
 μ-loop entries count list₀ i₀ list i = count - i
 
-returns : tie.Need-returns Inv-loop μ-loop
-returns c = search (needs, handings)
-
 loop-holds : tie.Need-loop-holds Inv-loop μ-loop
 loop-holds c = search (needs, handings)
 
@@ -40,8 +37,8 @@ loop-again c = search (needs, handings)
 same-length : tie.Need-same-length Inv-loop μ-loop
 same-length c = search (needs, handings)
 
-returns-2 : tie.Need-returns-2 Inv-loop μ-loop
-returns-2 c = search (needs, handings)
+returns : tie.Need-returns Inv-loop μ-loop
+returns c = search (needs, handings)
 
 pub hand-over-spec : {M : Type 1} → statement M
 hand-over-spec =
@@ -49,7 +46,6 @@ hand-over-spec =
     (tie.spec
     Inv-loop
     μ-loop
-    returns
     loop-holds
     mul-v
     element-copy-out-v
@@ -59,4 +55,4 @@ hand-over-spec =
     loop-less
     loop-again
     same-length
-    returns-2)
+    returns)

@@ -13,9 +13,6 @@ Inv-loop w list₀ i₀ list i = Handing (map pos w) (length w) list₀ list i
 abbrev μ-loop : tie.MeasureT-loop
 μ-loop w list₀ i₀ list i = length w - i
 
-returns : tie.Need-returns Inv-loop μ-loop
-returns c = search (needs, layings)
-
 loop-holds : tie.Need-loop-holds Inv-loop μ-loop
 loop-holds c = search (needs, layings)
 
@@ -25,8 +22,8 @@ shared-slice-read-b c = search needs
 entry-of-requires : tie.Need-entry-of-requires Inv-loop μ-loop
 entry-of-requires c κs = search needs
 
-mul-t8 : tie.Need-mul-t8 Inv-loop μ-loop
-mul-t8 c = search needs
+mul-t5 : tie.Need-mul-t5 Inv-loop μ-loop
+mul-t5 c = search needs
 
 slice-set-from-list : tie.Need-slice-set-from-list Inv-loop μ-loop
 slice-set-from-list c = search needs
@@ -43,8 +40,8 @@ loop-again c = search (needs, layings)
 same-length : tie.Need-same-length Inv-loop μ-loop
 same-length c = search (needs, layings)
 
-returns-2 : tie.Need-returns-2 Inv-loop μ-loop
-returns-2 c = search (needs, layings)
+returns : tie.Need-returns Inv-loop μ-loop
+returns c = search (needs, layings)
 
 pub lay-characters-spec : {M : Type 1} → statement M
 lay-characters-spec =
@@ -52,14 +49,13 @@ lay-characters-spec =
     (tie.spec
     Inv-loop
     μ-loop
-    returns
     loop-holds
     shared-slice-read-b
     entry-of-requires
-    mul-t8
+    mul-t5
     slice-set-from-list
     add-i
     loop-less
     loop-again
     same-length
-    returns-2)
+    returns)

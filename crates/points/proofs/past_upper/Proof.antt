@@ -1,4 +1,4 @@
-use Rattle.points.proofs.Stepping.{a-second, no-second, no-more}
+use Rattle.points.proofs.Stepping.{a-second, no-second, no-byte-behind}
 use borrow.Author.Needs.{needs}
 use Rattle.points.proofs.past_upper.Statement.{statement}
 use Rattle.points.proofs.past_upper.Tie as tie
@@ -19,7 +19,7 @@ returns-2 : tie.Need-returns-2
 returns-2 c = search (needs, a-second)
 
 returns-3 : tie.Need-returns-3
-returns-3 c = search (needs, no-more)
+returns-3 c = search (needs, no-byte-behind)
 
 pub past-upper-spec : {M : Type 1} → statement M
 past-upper-spec =

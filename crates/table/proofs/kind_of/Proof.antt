@@ -4,8 +4,8 @@ use Rattle.table.proofs.Rows.{rows}
 use Rattle.table.proofs.kind_of.Statement.{statement}
 use Rattle.table.proofs.kind_of.Tie as tie
 
-slot-of-requires : tie.Need-slot-of-requires
-slot-of-requires c κs = search needs
+key-of-requires : tie.Need-key-of-requires
+key-of-requires c κs = search needs
 
 row-at-requires : tie.Need-row-at-requires
 row-at-requires c κs = search needs
@@ -23,4 +23,4 @@ unfolding foundOf
 returns-3 c = search rows
 
 pub kind-of-spec : {M : Type 1} → statement M
-kind-of-spec = tie.close (tie.spec slot-of-requires row-at-requires returns returns-2 returns-3)
+kind-of-spec = tie.close (tie.spec key-of-requires row-at-requires returns returns-2 returns-3)
