@@ -36,7 +36,7 @@ use Rattle.parameters.specs.declared.EntriesEnd.{EntriesEnd}
 use Rattle.parameters.specs.declared.EntriesEnd.the-variants.{End}
 use Rattle.parameters.specs.declared.RunRead.{RunRead}
 use Rattle.parameters.specs.declared.RunRead.the-variants.{Counted}
-use Rattle.parameters.specs.Entries.{entryAt, entriesEnd, entryValues, entriesEndOf, CountedRun, runOf, runAt, handed, afterRun, listBehind, charactersAhead}
+use Rattle.parameters.specs.Entries.{entryAt, entriesEnd, entryValues, entriesEndOf, runOf, runAt, handed, afterRun, listBehind, charactersAhead}
 
 -- ---- one entry
 
