@@ -1,5 +1,7 @@
 // The beam record that the pixel commands work with, and the calls that set it: a fresh one, RU, RS, RH, and one step of the beam.
 // (0,0) is the lower left. A call takes W and H and the record by value, and hands a record back.
+#![tactic(auto)]
+
 ghost use Rattle.std.specs.Prelude.{◌≡◌, min, max};
 ghost use Rattle.beam.specs.Validity.{is_size, is_bits, on_surface, in_viewport, is_valid};
 ghost use Rattle.beam.specs.Settings.{setting_of, settled, make_fresh, bits_from, set_bits, framed, set_viewport, corners_on, set_beam, stepped, make_step};
@@ -7,7 +9,7 @@ ghost use Rattle.beam.specs.Settings.{setting_of, settled, make_fresh, bits_from
 use memory::Point;
 use refusals::Refusal;
 
-#[derive(Drop)]
+#[derive(Clone, Copy)]
 pub struct Beam {
     // bits to a pixel, 0 before RU has set them
     pub bits: usize,
@@ -21,7 +23,7 @@ pub struct Beam {
     pub y: usize,
 }
 
-#[derive(Drop)]
+#[derive(Clone, Copy)]
 pub enum Setting {
     // the record as it now is
     Set(Beam),

@@ -1,4 +1,6 @@
 // Characters as entries of a lent list of numbers: 32 to 127. Entries as bytes, and bytes as entries.
+#![tactic(auto)]
+
 ghost use Rattle.std.specs.Prelude.{◌≡◌, pos};
 ghost use Rattle.std.proofs.lemmas.List.Edits.{sets};
 ghost use Rattle.characters.specs.Characters.{is_character, are_characters, low_eight, low_bytes};

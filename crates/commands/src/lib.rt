@@ -1,4 +1,6 @@
 // A whole command, read: ESC, two capital letters, then its parameters.
+#![tactic(auto)]
+
 ghost use Rattle.std.specs.Prelude.{◌≡◌, length};
 ghost use Rattle.wire.specs.Taking.{byte_of};
 ghost use Rattle.ranges.specs.Ranges.{most_entries};
@@ -12,7 +14,7 @@ use refusals::Refusal;
 use table::{Found, Kind};
 use wire::{ByteRead, TakenByte};
 
-#[derive(Drop)]
+#[derive(Clone, Copy)]
 pub struct Command {
     pub first: u8,
     pub second: u8,
@@ -20,7 +22,7 @@ pub struct Command {
 }
 
 // A command that was read, how many entries it has, where reading goes on, and what is then remembered.
-#[derive(Drop)]
+#[derive(Clone, Copy)]
 pub struct TakenCommand {
     pub command: Command,
     pub count: usize,
@@ -28,7 +30,7 @@ pub struct TakenCommand {
     pub kept: Remembered,
 }
 
-#[derive(Drop)]
+#[derive(Clone, Copy)]
 pub enum CommandRead {
     Whole(TakenCommand),
     // the refusal and its place
@@ -36,7 +38,7 @@ pub enum CommandRead {
 }
 
 // Two letters, the kind of their parameters, and where these start.
-#[derive(Drop)]
+#[derive(Clone, Copy)]
 struct TakenLetters {
     first: u8,
     second: u8,
@@ -44,7 +46,7 @@ struct TakenLetters {
     next: usize,
 }
 
-#[derive(Drop)]
+#[derive(Clone, Copy)]
 enum HeadRead {
     Head(TakenLetters),
     Refused(Refusal, usize),

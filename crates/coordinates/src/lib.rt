@@ -1,4 +1,6 @@
 // What other languages hand in as numbers: a point of two numbers of any size, and what is remembered.
+#![tactic(auto)]
+
 ghost use Rattle.std.specs.Prelude.{◌≡◌};
 ghost use Rattle.coordinates.specs.Coordinates.{coordinate_of, point_given};
 ghost use Rattle.coordinates.specs.Remembering.{kept_in, mode_of, mode_number, slots_of};

@@ -1,5 +1,7 @@
 // Setting, replacing and deleting a macro, within the store: what stands behind its entry is moved, from whichever end is right, and nothing is
 // copied out.
+#![tactic(auto)]
+
 ghost use Rattle.std.specs.Prelude.{◌≡◌, true, map, ◌+◌, ◌-◌, ◌≤◌, length, take, drop, replicate, nat_abs};
 ghost use Rattle.std.proofs.lemmas.List.Edits.{sets};
 ghost use Rattle.refusals.specs.Answers.{every};
@@ -11,7 +13,7 @@ ghost use Rattle.defining.specs.Defining.{one, may_define, define_refusal, store
 use macros::{Gap, HEADER, LONGEST, Survey};
 use refusals::Refusal;
 
-#[derive(Drop)]
+#[derive(Clone, Copy)]
 pub enum Defining {
     Defined,
     Refused(Refusal),

@@ -1,5 +1,7 @@
 // Expanding a macro. Reading a body and entering a named macro call one another; a loop over the body's pieces keeps the stack small.
 // First a run that only looks finds the first trouble, the length and the macros entered; then, where all of it fits, one that writes.
+#![tactic(auto)]
+
 ghost use Rattle.std.specs.Prelude.{◌≡◌, ◌&&◌, length};
 ghost use Rattle.refusals.specs.Refusals.{number_of};
 ghost use Rattle.refusals.specs.Answers.{demand};
@@ -19,28 +21,28 @@ const DEEPEST: usize = 8;
 const MOST_ENTERED: usize = 1024;
 
 // "bytes written and macros entered", and what is remembered behind them
-#[derive(Drop)]
+#[derive(Clone, Copy)]
 pub struct Expanded {
     pub written: usize,
     pub entered: usize,
     pub kept: Remembered,
 }
 
-#[derive(Drop)]
+#[derive(Clone, Copy)]
 pub enum Expansion {
     Done(Expanded),
     Refused(Refusal),
 }
 
 // How far an expansion has come: the place of the next byte, the macros entered, and what reading remembers.
-#[derive(Drop)]
+#[derive(Clone, Copy)]
 struct Going {
     at: usize,
     entered: usize,
     kept: Remembered,
 }
 
-#[derive(Drop)]
+#[derive(Clone, Copy)]
 enum Step {
     On(Going),
     Refused(Refusal),

@@ -1,4 +1,6 @@
 // The lister's lines: one for each item of a host stream, and the last one. They are poured, so that one stands behind another.
+#![tactic(auto)]
+
 ghost use Rattle.std.specs.Prelude.{◌≡◌, [], ◌∷◌, min, pos};
 ghost use Rattle.parameters.specs.Shapes.{values_of, tail_of};
 ghost use Rattle.parameters.specs.Numbers.{numbers_of};

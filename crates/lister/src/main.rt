@@ -1,5 +1,7 @@
 // Reads standard input and prints the listing of its first 4,096 bytes: document 01, "The lister". What is printed is `listing::listing`; this
 // only reads and writes.
+#![tactic(auto)]
+
 use libc::{STDERR_FILENO, STDIN_FILENO, STDOUT_FILENO};
 use wire::Written;
 

@@ -1,5 +1,7 @@
 // The listing of a capture: the lines of all its items in order, and the last line. It is poured twice: once on no bytes, to learn how long
 // it is, and, where it fits, once on the lent ones.
+#![tactic(auto)]
+
 ghost use Rattle.std.specs.Prelude.{◌≡◌, length};
 ghost use Rattle.wire.specs.Sending.{write_at, after_write, written_of};
 ghost use Rattle.stream.specs.Items.{item_of, next_start, next_kept};

@@ -1,4 +1,6 @@
 // The macro calls for programs in other languages (include/ardhrumesh.h): the answer is a number, and what goes with it is written to lent slots.
+#![tactic(auto)]
+
 ghost use Rattle.std.specs.Prelude.{◌≡◌};
 ghost use Rattle.macros.specs.Store.{three_bytes, placed};
 ghost use Rattle.defining.specs.Defining.{define_refusal, store_after};

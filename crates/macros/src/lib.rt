@@ -1,5 +1,7 @@
 // A macro store: entries in rising macro number, each number once, and zeros behind them. An entry is a header and its body.
 // Whether a store is well formed, where a macro stands in it, and looking up.
+#![tactic(auto)]
+
 ghost use Rattle.std.specs.Prelude.{◌≡◌, ◌+◌, ◌<◌, ◌≤◌, length, get_or, drop};
 ghost use Rattle.refusals.specs.Answers.{every};
 ghost use Rattle.macros.specs.Store.{three_bytes, at_most, is_store_entry, well_formed, looked_up, find_refusal, finding_of, placed, body_pointer, body_place_of, has_body, part_in, placed_by_headers, looked_by_headers};
@@ -13,21 +15,21 @@ pub const HEADER: usize = 3;
 // The longest body.
 pub const LONGEST: usize = 256;
 
-#[derive(Drop)]
+#[derive(Clone, Copy)]
 pub enum Finding {
     Found,
     Refused(Refusal),
 }
 
 // A body as part of a store: where it begins in it, and its length.
-#[derive(Drop)]
+#[derive(Clone, Copy)]
 pub struct Part {
     pub offset: usize,
     pub long: usize,
 }
 
 // Where look up finds a body.
-#[derive(Drop)]
+#[derive(Clone, Copy)]
 pub enum Place {
     InVolatile(Part),
     InSaved(Part),
@@ -35,7 +37,7 @@ pub enum Place {
 }
 
 // What stands at a place of a store.
-#[derive(Drop)]
+#[derive(Clone, Copy)]
 enum Front {
     // a number, and where its body begins and ends
     Here(usize, usize, usize),
@@ -43,7 +45,7 @@ enum Front {
 }
 
 // Where a macro stands in a store.
-#[derive(Drop)]
+#[derive(Clone, Copy)]
 pub struct Gap {
     // where its entry begins, or would begin
     pub at: usize,
@@ -54,7 +56,7 @@ pub struct Gap {
 }
 
 // What one pass over a store finds.
-#[derive(Drop)]
+#[derive(Clone, Copy)]
 pub enum Survey {
     // it is well formed; where the macro stands
     Formed(Gap),

@@ -1,5 +1,5 @@
 -- What is remembered between commands.
-use Rattle.std.specs.Prelude.{ℕ, Bool, true, false, ◌&&◌, leb}
+use Rattle.std.specs.Prelude.{ℕ, Bool, ◌&&◌, leb}
 use Rattle.memory.specs.declared.Point.{Point}
 use Rattle.memory.specs.declared.DelMode.{DelMode}
 use Rattle.memory.specs.declared.DelMode.TheVariants.{Data}

@@ -1,21 +1,23 @@
 // What reading remembers from one command to the next, and writing likewise: one struct, handed on whole.
+#![tactic(auto)]
+
 ghost use Rattle.std.specs.Prelude.{◌≡◌};
 ghost use Rattle.memory.specs.Memory.{fresh_memory, inside, remember, in_mode};
 
-#[derive(Drop)]
+#[derive(Clone, Copy)]
 pub struct Point {
     pub x: u16,
     pub y: u16,
 }
 
 // What a plain 127 is: "data wherever a parameter allows it", or, after KI 1, filler, which is "passed over".
-#[derive(Drop)]
+#[derive(Clone, Copy)]
 pub enum DelMode {
     Data,
     Filler,
 }
 
-#[derive(Drop)]
+#[derive(Clone, Copy)]
 pub struct Remembered {
     // the last point
     pub point: Point,

@@ -1,4 +1,6 @@
 // Integers and counts of the host syntax, read from any place of any bytes.
+#![tactic(auto)]
+
 ghost use Rattle.std.specs.Prelude.{◌≡◌, true, ◌<◌, ◌≤◌, ◌*◌};
 ghost use Rattle.numbers.specs.Integers.{low_byte, integer_from, integer_at, integer_of};
 ghost use Rattle.numbers.specs.Three.{highs_before, high_value, ends_ahead};
@@ -10,14 +12,14 @@ use refusals::Refusal;
 use wire::ByteRead;
 
 // An integer that was read, the place of its low byte, and where reading goes on.
-#[derive(Drop)]
+#[derive(Clone, Copy)]
 pub struct TakenInteger {
     pub value: i32,
     pub place: usize,
     pub next: usize,
 }
 
-#[derive(Drop)]
+#[derive(Clone, Copy)]
 pub enum IntegerRead {
     Integer(TakenInteger),
     // the refusal and its place
@@ -25,14 +27,14 @@ pub enum IntegerRead {
 }
 
 // The same for a count.
-#[derive(Drop)]
+#[derive(Clone, Copy)]
 pub struct TakenCount {
     pub value: usize,
     pub place: usize,
     pub next: usize,
 }
 
-#[derive(Drop)]
+#[derive(Clone, Copy)]
 pub enum CountRead {
     Count(TakenCount),
     // the refusal and its place

@@ -1,6 +1,8 @@
 // The parameters of a command: read by kind, and what they hold. The entries of a string or an array are read into an array of their own: they come
 // last, and go to the lent list once all of them are known to be good. Characters that are all taken as they stand go there at once. Where the list has
 // no room for them entries are only passed over.
+#![tactic(auto)]
+
 ghost use Rattle.std.specs.Prelude.{◌≡◌, [], ◌∷◌, map, ◌≤◌, length, take, pos};
 ghost use Rattle.std.proofs.lemmas.List.Edits.{sets};
 ghost use Rattle.refusals.specs.Answers.{done};
@@ -19,21 +21,21 @@ use table::Kind;
 use wire::ByteRead;
 
 // What one entry is.
-#[derive(Drop)]
+#[derive(Clone, Copy)]
 pub enum Entry {
     AnInteger,
     ACharacter,
 }
 
 // "Two integers, mantissa and exponent .. The pair is kept as it came."
-#[derive(Drop)]
+#[derive(Clone, Copy)]
 pub struct Real {
     pub mantissa: i32,
     pub exponent: i32,
 }
 
 // The fixed parameters of a command, by kind. The entries of a string or an array are in a lent list.
-#[derive(Drop)]
+#[derive(Clone, Copy)]
 pub enum Parameters {
     OneInteger(i32),
     TwoIntegers(i32, i32),
@@ -49,35 +51,35 @@ pub enum Parameters {
 }
 
 // Whether entries of a lent list go with the parameters, and what they are.
-#[derive(Drop)]
+#[derive(Clone, Copy)]
 pub enum Tail {
     NoList,
     ListOf(Entry),
 }
 
 // The point that the parameters end with, if they have any.
-#[derive(Drop)]
+#[derive(Clone, Copy)]
 pub enum LastPoint {
     NoPoint,
     Last(Point),
 }
 
 // The fixed parameters as numbers, a point as x and y, and 0 in what is left. Two points have the most, four.
-#[derive(Drop)]
+#[derive(Clone, Copy)]
 pub struct Numbers {
     pub values: [i32; 4],
     pub len: usize,
 }
 
 // Where the entries of a string or an array start, and how many they are.
-#[derive(Drop)]
+#[derive(Clone, Copy)]
 pub struct Run {
     pub start: usize,
     pub count: usize,
 }
 
 // Parameters that were read, the run of their entries, where reading goes on, and what is then remembered.
-#[derive(Drop)]
+#[derive(Clone, Copy)]
 pub struct TakenParameters {
     pub parameters: Parameters,
     pub run: Run,
@@ -85,27 +87,27 @@ pub struct TakenParameters {
     pub kept: Remembered,
 }
 
-#[derive(Drop)]
+#[derive(Clone, Copy)]
 pub enum ParametersRead {
     Whole(TakenParameters),
     // the refusal and its place
     Refused(Refusal, usize),
 }
 
-#[derive(Drop)]
+#[derive(Clone, Copy)]
 enum EntriesEnd {
     End(usize),
     Refused(Refusal, usize),
 }
 
-#[derive(Drop)]
+#[derive(Clone, Copy)]
 enum RunRead {
     // the run, and where reading goes on
     Counted(Run, usize),
     Refused(Refusal, usize),
 }
 
-#[derive(Drop)]
+#[derive(Clone, Copy)]
 enum TwoEntriesRead {
     // two integers or characters, and where reading goes on
     Both(i32, i32, usize),

@@ -1,4 +1,6 @@
 // The part that a look up hands back, and what its companion says: no exported call hands back a part (docs/VECTORS.md).
+#![tactic(auto)]
+
 use libc::STDOUT_FILENO;
 use macros::Finding;
 

@@ -1,4 +1,6 @@
 // The picture of docs/COMPARISON.md, drawn by RP with the proved calls and written to standard output as a PPM.
+#![tactic(auto)]
+
 mod drawing;
 mod ppm;
 

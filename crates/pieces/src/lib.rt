@@ -1,5 +1,7 @@
 // The pieces of a macro's body: what expanding needs to know of each item, and no more. The entries of an array or a string are not
 // asked for, so that no list is lent for them.
+#![tactic(auto)]
+
 ghost use Rattle.std.specs.Prelude.{◌≡◌};
 ghost use Rattle.ranges.specs.Ranges.{most_entries};
 ghost use Rattle.parameters.specs.Shapes.{values_of};
@@ -9,7 +11,7 @@ ghost use Rattle.pieces.specs.Pieces.{is_call, command_piece, item_piece, is_byt
 use commands::{CommandRead, TakenCommand};
 use memory::Remembered;
 
-#[derive(Drop)]
+#[derive(Clone, Copy)]
 pub enum Piece {
     // no item is left
     End,

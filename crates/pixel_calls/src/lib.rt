@@ -1,4 +1,6 @@
 // The pixel calls for programs in other languages (include/ardhrumesh.h): the beam record is a lent array, the answer is a number.
+#![tactic(auto)]
+
 ghost use Rattle.std.specs.Prelude.{◌≡◌, length};
 ghost use Rattle.coordinates.specs.Coordinates.{point_given};
 ghost use Rattle.beam.specs.Settings.{setting_of, make_fresh, set_bits, set_viewport, set_beam, make_step};
@@ -49,7 +51,7 @@ fn fields_of(beam: Beam) -> [usize; 7]
 // ---- what an answer hands back
 
 // 0 or the refusal's number, the number of pixels, and the record.
-#[derive(Drop)]
+#[derive(Clone, Copy)]
 struct Handed {
     number: u8,
     count: usize,

@@ -1,5 +1,7 @@
 // When a pixel write is refused: the tests of RP and RL in document 01's order, 11, 8 for the record, 9, 8 for a number or too long a list, 10.
 // Nothing lent is written here; the crate `pixels` lays what is allowed.
+#![tactic(auto)]
+
 ghost use Rattle.std.specs.Prelude.{◌≡◌, map, ◌<◌, ◌≤◌, get_or, nat_abs};
 ghost use Rattle.pixel_refusals.specs.Tests.{is_surface, pixel_characters, raster_numbers, raster_characters, run_numbers, write_refusal, raster_refusal, run_refusal, verdict_of};
 
@@ -8,7 +10,7 @@ use ranges::MOST_ENTRIES;
 use refusals::Refusal;
 
 // Whether a write may be done.
-#[derive(Drop)]
+#[derive(Clone, Copy)]
 pub enum Verdict {
     Allowed,
     Refused(Refusal),

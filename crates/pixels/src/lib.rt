@@ -1,5 +1,7 @@
 // The two pixel writes, RP and RL, on a lent surface: its bytes hold the top row first, W times H of them.
 // A write that the tests of `pixel_refusals` refuse touches nothing; one that they allow lays its pixels one after the other at the beam.
+#![tactic(auto)]
+
 ghost use Rattle.std.specs.Prelude.{◌≡◌, true, [], ◌∷◌, map, ◌*◌, ◌<◌, ◌≤◌, min, length, nat_abs};
 ghost use Rattle.refusals.specs.Answers.{every};
 ghost use Rattle.pixel_refusals.specs.Tests.{is_raster, run_numbers};
@@ -11,7 +13,7 @@ use beam::Beam;
 use pixel_refusals::{END_OF_ROW, Verdict};
 use refusals::Refusal;
 
-#[derive(Drop)]
+#[derive(Clone, Copy)]
 pub enum Drawing {
     // the number of pixels, and the record behind them
     Drawn(usize, Beam),

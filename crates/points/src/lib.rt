@@ -1,4 +1,6 @@
 // The packed point: read from a remembered point with all that may be left out, and written with all of that left out.
+#![tactic(auto)]
+
 ghost use Rattle.std.specs.Prelude.{◌≡◌, ◌&&◌, ◌<◌, ◌≤◌, ◌+◌, ◌*◌, ◌/◌, ◌%◌, length};
 ghost use Rattle.std.proofs.lemmas.List.Edits.{sets};
 ghost use Rattle.memory.specs.Memory.{inside};
@@ -12,14 +14,14 @@ use refusals::Refusal;
 use wire::{ByteRead, Written};
 
 // A point that was read, the place of its LoX, and where reading goes on.
-#[derive(Drop)]
+#[derive(Clone, Copy)]
 pub struct TakenPoint {
     pub value: Point,
     pub place: usize,
     pub next: usize,
 }
 
-#[derive(Drop)]
+#[derive(Clone, Copy)]
 pub enum PointRead {
     At(TakenPoint),
     // the refusal and its place
@@ -27,7 +29,7 @@ pub enum PointRead {
 }
 
 // The bytes of a point, in the order in which they are sent.
-#[derive(Drop)]
+#[derive(Clone, Copy)]
 pub struct PointBytes {
     pub hiy: u8,
     pub extra: u8,
@@ -37,7 +39,7 @@ pub struct PointBytes {
 }
 
 // The bytes in force, and where the rest of a point begins.
-#[derive(Drop)]
+#[derive(Clone, Copy)]
 struct Start {
     bytes: PointBytes,
     from: usize,

@@ -1,4 +1,6 @@
 // How many entries a list may have; numbers and entries of a lent list, tested against a range that does not reach below 0.
+#![tactic(auto)]
+
 ghost use Rattle.std.specs.Prelude.{◌≡◌};
 ghost use Rattle.refusals.specs.Answers.{every};
 ghost use Rattle.ranges.specs.Ranges.{within};

@@ -1,7 +1,7 @@
 -- Two answers that say the same are the same: what a promise says through numbers and values fixes the answer itself.
 use Prim.Native.Nat.{ℕ}
 use mathlib.Core.Path.{◌≡◌, refl, sym, ◌∙◌, ap}
-use mathlib.Core.List.{List, [], ◌∷◌}
+use mathlib.Core.List.{[], ◌∷◌}
 use lib.ListN.{get_or}
 use Rattle.refusals.specs.declared.Refusal.{Refusal}
 use Rattle.refusals.specs.declared.Refusal.TheVariants.{BytesEnd, UnknownCommand, ByteNotAllowed, IntegerOutside, CountOutside, NewEscape, TooShort, NotValid, BitsNotSet, RasterCharacters, SurfaceSize, StoreMalformed, StoreTooShort, NoSuchMacro, TooDeep, TooManyMacros, BodyRefused}

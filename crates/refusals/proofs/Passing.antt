@@ -9,8 +9,8 @@ use borrow.Author.Tests.{ltb-true, ltb-false}
 use lib.Dec.{ltb}
 use lib.ListN.{length, get_or, drop, drop_of_length-le, length-drop}
 use lib.Seq.{drop-cons}
-use Rattle.refusals.specs.Answers.{pick, in_front, past_front}
-use Rattle.refusals.proofs.Cases.{by_pick, bool_apart}
+use Rattle.refusals.specs.Answers.{in_front, past_front}
+use Rattle.refusals.proofs.Cases.{by_pick}
 
 pub record Passing (ok : ℕ → Bool) (s : List ℕ) (at i : ℕ) : Type 0 where
   pub same : past_front ok s i ≡ past_front ok s at

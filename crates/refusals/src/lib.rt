@@ -1,8 +1,10 @@
 // The refusals of document 01 by name, the number of each ("Numbers the unit gives back"), and the joining of two tests.
+#![tactic(auto)]
+
 ghost use Rattle.std.specs.Prelude.{◌≡◌, ◌&&◌};
 ghost use Rattle.refusals.specs.Refusals.{number_of};
 
-#[derive(Drop)]
+#[derive(Clone, Copy)]
 pub enum Refusal {
     // 1: bytes end inside a command
     BytesEnd,

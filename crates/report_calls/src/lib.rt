@@ -1,4 +1,6 @@
 // The report calls for programs in other languages (include/ardhrumesh.h): the answer is a number, and what goes with it is written to lent slots.
+#![tactic(auto)]
+
 ghost use Rattle.std.specs.Prelude.{◌≡◌, length};
 ghost use Rattle.wire.specs.Sending.{after_write};
 ghost use Rattle.reports.specs.Reading.{report_at, string_at, after_string};

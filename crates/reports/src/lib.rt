@@ -1,5 +1,7 @@
 // Reports to the host: an integer report is three bytes, a string report such a length and that many characters.
 // A report's bytes are read as they stand: 27 is not allowed here, and there are no pairs.
+#![tactic(auto)]
+
 ghost use Rattle.std.specs.Prelude.{◌≡◌, ◌≤◌, ◌+◌, true, length};
 ghost use Rattle.std.proofs.lemmas.List.Edits.{sets};
 ghost use Rattle.wire.specs.Taking.{byte_of};
@@ -17,13 +19,13 @@ use wire::{ByteRead, TakenByte, Written};
 const MOST_CHARACTERS: usize = 256;
 
 // How many entries the list now has at its front, and where reading goes on.
-#[derive(Drop)]
+#[derive(Clone, Copy)]
 pub struct TakenString {
     pub count: usize,
     pub next: usize,
 }
 
-#[derive(Drop)]
+#[derive(Clone, Copy)]
 pub enum StringRead {
     Entries(TakenString),
     // the refusal and its place
@@ -31,7 +33,7 @@ pub enum StringRead {
 }
 
 // Where a run of characters ends, or the first byte that is none.
-#[derive(Drop)]
+#[derive(Clone, Copy)]
 enum RunEnd {
     End(usize),
     Refused(Refusal, usize),

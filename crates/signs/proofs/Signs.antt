@@ -1,8 +1,8 @@
 -- A magnitude and its sign, as the machine makes a number of them and takes it apart. Said over the width.
-use Prim.Native.Nat.{ℕ, zero, suc, ◌<◌, ◌≤◌, ◌^◌, ◌-◌, ◌+◌}
+use Prim.Native.Nat.{ℕ, zero, suc, ◌<◌, ◌^◌, ◌+◌}
 use native.Mathlib.Omega.{arith}
-use mathlib.Core.Path.{◌≡◌, refl, sym, ◌∙◌, ap}
-use mathlib.Core.Bool.{Bool, true, false}
+use mathlib.Core.Path.{◌≡◌, refl, sym, ◌∙◌}
+use mathlib.Core.Bool.{true, false}
 use lib.Dec.{T}
 use borrow.Author.Tests.{le-ltb}
 use lib.Signed.{mag, lt_z, non_neg}

@@ -1,4 +1,6 @@
 // Signed numbers of the syntax: sign and magnitude, and the range of an integer. Nothing above this crate compares or negates them itself.
+#![tactic(auto)]
+
 ghost use Rattle.std.specs.Prelude.{◌≡◌, nat_abs};
 ghost use Rattle.signs.specs.Signs.{signed_of, is_negative, most_magnitude, is_integer};
 

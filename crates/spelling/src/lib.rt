@@ -1,4 +1,6 @@
 // Integers and counts of the host syntax, written in their shortest spelling.
+#![tactic(auto)]
+
 ghost use Rattle.std.specs.Prelude.{◌≡◌, ◌≤◌, length, leb, pos};
 ghost use Rattle.std.proofs.lemmas.List.Edits.{sets};
 ghost use Rattle.signs.specs.Signs.{is_integer};

@@ -1,4 +1,6 @@
 // The operator's desk lends its beam record: one call moves the beam one place in that record.
+#![tactic(auto)]
+
 ghost use Rattle.std.specs.Prelude.{◌≡◌};
 ghost use Rattle.beam.specs.Settings.{make_step};
 ghost use Rattle.stepping.specs.Stepping.{moved_of};
@@ -6,7 +8,7 @@ ghost use Rattle.stepping.specs.Stepping.{moved_of};
 use beam::{Beam, Setting};
 
 // What the step by value gives, the fields that do not change aside: 0 or the refusal's number, and the beam.
-#[derive(Drop)]
+#[derive(Clone, Copy)]
 struct Moved {
     number: u8,
     x: usize,

@@ -1,4 +1,6 @@
 // The items of a host stream: text, DELs, commands and refused commands, one after the other.
+#![tactic(auto)]
+
 ghost use Rattle.std.specs.Prelude.{◌≡◌, length};
 ghost use Rattle.stream.specs.Items.{item_of, is_filler, byte_item, command_item, item_at, told_item, after_item, passed_from};
 
@@ -7,14 +9,14 @@ use memory::{DelMode, Remembered};
 use refusals::Refusal;
 
 // A byte outside commands, and where the next item starts.
-#[derive(Drop)]
+#[derive(Clone, Copy)]
 pub struct TextItem {
     pub byte: u8,
     pub next: usize,
 }
 
 // A refused command: the refusal, its place, where the next item starts, and what is remembered, as before it.
-#[derive(Drop)]
+#[derive(Clone, Copy)]
 pub struct RefusedItem {
     pub refusal: Refusal,
     pub place: usize,
@@ -23,12 +25,12 @@ pub struct RefusedItem {
 }
 
 // A DEL between commands, in the mode after KI 1, and where the next item starts.
-#[derive(Drop)]
+#[derive(Clone, Copy)]
 pub struct DelItem {
     pub next: usize,
 }
 
-#[derive(Drop)]
+#[derive(Clone, Copy)]
 pub enum Item {
     // no item is left
     Nothing,

@@ -1,5 +1,7 @@
 // The stream's calls for programs in other languages (include/ardhrumesh.h): the next item, and writing a command. The answer is a number,
 // what goes with it is written to lent slots, and what is remembered is one lent array: the point's x and y, and the DEL mode, 0 or 1.
+#![tactic(auto)]
+
 ghost use Rattle.std.specs.Prelude.{◌≡◌, length};
 ghost use Rattle.parameters.specs.Shapes.{values_of};
 ghost use Rattle.parameters.specs.Numbers.{four_of};
@@ -160,7 +162,7 @@ fn kept_behind(kept: Remembered, kind: Kind, v: &[i32; 4]) -> Remembered
 }
 
 // A writing's answer, and what is remembered behind it.
-#[derive(Drop)]
+#[derive(Clone, Copy)]
 struct Sent {
     answer: Written,
     kept: Remembered,

@@ -1,9 +1,11 @@
 // The table of the 21 commands: their letters, and the kind of parameters of each.
+#![tactic(auto)]
+
 ghost use Rattle.std.specs.Prelude.{◌≡◌};
 ghost use Rattle.table.specs.Table.{begins, kind_of, kind_meant, found_of};
 ghost use Rattle.table.specs.Keys.{key_of, RowAt};
 
-#[derive(Drop)]
+#[derive(Clone, Copy)]
 pub enum Kind {
     OneInteger,
     TwoIntegers,
@@ -18,7 +20,7 @@ pub enum Kind {
     TwoCharacters,
 }
 
-#[derive(Drop)]
+#[derive(Clone, Copy)]
 pub enum Found {
     Is(Kind),
     // no command has these letters
@@ -41,7 +43,7 @@ pub fn begins_command(first: u8) -> bool
 }
 
 // A row of the table.
-#[derive(Drop)]
+#[derive(Clone, Copy)]
 struct Row {
     first: u8,
     second: u8,

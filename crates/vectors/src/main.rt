@@ -1,4 +1,6 @@
 // The manual's own table of integers and the papers' single values, run through the proved crates: docs/VECTORS.md.
+#![tactic(auto)]
+
 mod digest;
 mod print;
 mod table;

@@ -8,7 +8,7 @@ use wire::Written;
 const MOST: usize = 8;
 
 // What stands in a row so far.
-#[derive(Drop)]
+#[derive(Clone, Copy)]
 struct Row {
     negative: bool,
     // the decimal number that is being read
@@ -20,7 +20,7 @@ struct Row {
 }
 
 // What the rows so far come to.
-#[derive(Drop)]
+#[derive(Clone, Copy)]
 struct Tally {
     rows: u32,
     written: u32,
@@ -28,7 +28,7 @@ struct Tally {
     digest: u32,
 }
 
-#[derive(Drop)]
+#[derive(Clone, Copy)]
 struct Reading {
     row: Row,
     tally: Tally,

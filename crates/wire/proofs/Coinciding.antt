@@ -1,13 +1,10 @@
 -- Two conforming answers of a public call coincide.
 use Prim.Native.Nat.{ℕ}
 use mathlib.Core.Path.{◌≡◌, refl, ap}
-use Rattle.refusals.specs.Refusals.{number_of}
 use Rattle.refusals.specs.Answers.{Answer, done, refused, Read}
 use Rattle.refusals.proofs.Coinciding.{named, named_back, coincide}
 use Rattle.wire.specs.declared.ByteRead.{ByteRead}
-use Rattle.wire.specs.declared.ByteRead.TheVariants as ByteRead
 use Rattle.wire.specs.declared.Written.{Written}
-use Rattle.wire.specs.declared.Written.TheVariants as Written
 use Rattle.wire.specs.Taking.{byte_of}
 use Rattle.wire.specs.Sending.{written_of}
 

@@ -1,5 +1,5 @@
 -- What `take` gives, one byte after the other. The laws of a parameter go by this and say nothing of how a byte is sent.
-use Prim.Native.Nat.{ℕ, zero, suc, ◌+◌, ◌-◌, ◌≤◌, ◌<◌}
+use Prim.Native.Nat.{ℕ, ◌+◌, ◌≤◌, ◌<◌}
 use mathlib.Core.Path.{◌≡◌, refl, sym, ◌∙◌, ap}
 use mathlib.Core.Bool.{Bool, true, false, ◌&&◌}
 use mathlib.Core.List.{List, [], ◌∷◌, ◌++◌}
@@ -13,7 +13,7 @@ use Rattle.memory.specs.declared.DelMode.TheVariants.{Data, Filler}
 use Rattle.memory.specs.declared.Remembered.{Remembered}
 use Rattle.refusals.specs.declared.Refusal.{Refusal}
 use Rattle.refusals.specs.Refusals.{number_of}
-use Rattle.refusals.specs.Answers.{Answer, done, refused, Read, pick, past_front}
+use Rattle.refusals.specs.Answers.{done, refused, Read, pick, past_front}
 use Rattle.refusals.proofs.Cases.{by_pick, and_left, and_right, Done, done-of, done-map, is-done, not_done}
 use Rattle.refusals.proofs.Many.{Checking, checking_none, checking_more, checking_end}
 use Rattle.refusals.proofs.Passing.{past_here, past_on, past_within, past_stops}

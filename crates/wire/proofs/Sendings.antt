@@ -1,7 +1,7 @@
 -- A parameter's bytes as they are sent: what is sent of bytes one behind the other, how many they are, and one byte stored where there is room.
-use Prim.Native.Nat.{ℕ, suc, ◌+◌, ◌-◌, ◌*◌, ◌≤◌, ◌<◌}
+use Prim.Native.Nat.{ℕ, ◌+◌, ◌-◌, ◌*◌, ◌≤◌, ◌<◌}
 use mathlib.Core.Path.{◌≡◌, refl, sym, ◌∙◌, ap}
-use mathlib.Core.Bool.{Bool, true, false}
+use mathlib.Core.Bool.{true}
 use mathlib.Core.List.{List, [], ◌∷◌, ◌++◌, append_assoc}
 use native.Mathlib.Omega.{arith}
 use borrow.Author.Tests.{ne_eqb}
@@ -11,7 +11,6 @@ use lib.Seq.{sets}
 use Rattle.memory.specs.declared.DelMode.{DelMode}
 use Rattle.memory.specs.declared.DelMode.TheVariants.{Data, Filler}
 use Rattle.memory.specs.declared.Remembered.{Remembered}
-use Rattle.refusals.specs.Answers.{pick}
 use Rattle.refusals.proofs.Cases.{by_pick, bool_apart}
 use Rattle.refusals.proofs.Many.{past_end, sets_append}
 use Rattle.wire.specs.Sending.{paired, sent_in, sent, plain_in, is_plain}

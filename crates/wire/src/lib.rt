@@ -1,4 +1,6 @@
 // A parameter's bytes on the wire: the one place that knows how they are taken and how they are sent, but for the quick way of an integer.
+#![tactic(auto)]
+
 ghost use Rattle.std.specs.Prelude.{◌≡◌, ◌+◌, [], ◌∷◌, length};
 ghost use Rattle.std.proofs.lemmas.List.Edits.{sets};
 ghost use Rattle.refusals.specs.Answers.{past_front, every};
@@ -9,21 +11,21 @@ use memory::{DelMode, Remembered};
 use refusals::Refusal;
 
 // A byte that was taken, its place, and where reading goes on.
-#[derive(Drop)]
+#[derive(Clone, Copy)]
 pub struct TakenByte {
     pub value: u8,
     pub place: usize,
     pub next: usize,
 }
 
-#[derive(Drop)]
+#[derive(Clone, Copy)]
 pub enum ByteRead {
     Byte(TakenByte),
     // the refusal and its place
     Refused(Refusal, usize),
 }
 
-#[derive(Drop)]
+#[derive(Clone, Copy)]
 pub enum Written {
     // where the next byte goes
     Next(usize),

@@ -1,4 +1,6 @@
 // What may be written: letters and parameters that belong together, values within their ranges, a list of at most 256.
+#![tactic(auto)]
+
 ghost use Rattle.std.specs.Prelude.{◌≡◌, ◌&&◌};
 ghost use Rattle.table.specs.Table.{kind_meant};
 ghost use Rattle.parameters.specs.Shapes.{list_of, values_of, tail_of};

@@ -1,4 +1,6 @@
 // Writing a command in its shortest spelling. Pouring stores bytes as far as there is room and says how many they are.
+#![tactic(auto)]
+
 ghost use Rattle.std.specs.Prelude.{◌≡◌, true, [], ◌∷◌, ◌++◌, ◌≤◌, ◌+◌, length};
 ghost use Rattle.std.proofs.lemmas.List.Edits.{sets};
 ghost use Rattle.memory.specs.Memory.{inside, remember};
