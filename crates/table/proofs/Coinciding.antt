@@ -2,7 +2,6 @@
 use mathlib.Core.Path.{◌≡◌, refl, ap}
 use Rattle.refusals.proofs.Coinciding.{coincide}
 use Rattle.table.specs.declared.Kind.{Kind}
-use Rattle.table.specs.declared.Kind.TheVariants as Kind
 use Rattle.table.specs.declared.Found.{Found}
 use Rattle.table.specs.declared.Found.TheVariants.{Is, NoKind}
 use Rattle.table.specs.Table.{ParameterKind, Tabled, in_table, not_in_table, kind_meant, found_of}
