@@ -9,4 +9,5 @@ pub overflow_add-result : goal.overflow_add-result
 overflow_add-result c = search (rules, put-fits)
 
 pub returns : goal.returns
-returns c = ((search (rules, put-size), search (rules, put-few)), search (rules, put-stands))
+returns c =
+    record { value = (search (rules, put-size), search (rules, put-few)); out_after = search (rules, put-stands); }
