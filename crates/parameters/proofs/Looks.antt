@@ -34,7 +34,7 @@ use Rattle.parameters.specs.declared.RunRead.{RunRead}
 use Rattle.parameters.specs.declared.RunRead.TheVariants.{Counted}
 use Rattle.parameters.specs.declared.ParametersRead.{ParametersRead}
 use Rattle.parameters.specs.Entries.{entry_at, CountedRun, run_of, run_at, handed, after_run}
-use Rattle.parameters.specs.Shapes.{Tailed, no_list, list_of, Part, single, point, Shape, shape_of, list_shape, integer_then_list_shape, Value, number, values_of, tail_of}
+use Rattle.parameters.specs.Shapes.{Tailed, no_list, list_of, Part, single, Shape, shape_of, list_shape, integer_then_list_shape, Value, number, values_of, tail_of}
 use Rattle.parameters.specs.Looking.{TwoEntries, two_entries_at, two_entries_of, Fixed, part_at, fixed_at, tail_at, Parsed, parameters_at, parsed_as, look_of, after_look}
 use Rattle.parameters.proofs.Entering.{entry_given, entry_none}
 

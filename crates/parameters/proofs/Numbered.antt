@@ -1,9 +1,8 @@
 -- The fixed parameters as numbers, and the last point, by kind.
 use Prim.Native.Nat.{ℕ}
 use mathlib.Core.Path.{◌≡◌, refl, sym, ◌∙◌, ap}
-use mathlib.Core.List.{List, [], ◌∷◌, ◌++◌}
+use mathlib.Core.List.{[], ◌∷◌}
 use native.Mathlib.Omega.{arith}
-use lib.ListN.{take}
 use lib.IntN.{ℤ, pos}
 use Rattle.memory.specs.declared.Point.{Point}
 use Rattle.parameters.specs.declared.Real.{Real}
@@ -11,7 +10,7 @@ use Rattle.parameters.specs.declared.Numbers.{Numbers}
 use Rattle.parameters.specs.declared.Parameters.{Parameters}
 use Rattle.parameters.specs.declared.Parameters.TheVariants.{OneInteger, TwoIntegers, ThreeIntegers, OnePoint, TwoPoints, AReal, AString, AnArray, IntegerThenArray, IntegerThenString, TwoCharacters}
 use Rattle.parameters.specs.Shapes.{Tailed, Pointed, values_of, tail_of, last_point}
-use Rattle.parameters.specs.Numbers.{numbers_of, four_of, Holds}
+use Rattle.parameters.specs.Numbers.{four_of, Holds}
 
 pub last_of : {p q : Parameters} {a : Pointed} → p ≡ q → last_point (values_of q) ≡ a → a ≡ last_point (values_of p)
 last_of e g = sym (ap (λ x. last_point (values_of x)) e ∙ g)

@@ -3,8 +3,7 @@ use Rattle.std.specs.Prelude.{ℕ, List, [], ◌∷◌, ◌++◌, ℤ}
 use Rattle.memory.specs.declared.Remembered.{Remembered}
 use Rattle.memory.specs.Memory.{remember}
 use Rattle.refusals.specs.Refusals.{number_of}
-use Rattle.refusals.specs.Answers.{Answer, done, refused, Read, then}
-use Rattle.numbers.specs.Integers.{integer_at}
+use Rattle.refusals.specs.Answers.{Answer, done, refused, then}
 use Rattle.points.specs.Reading.{point_at}
 use Rattle.parameters.specs.declared.Entry.{Entry}
 use Rattle.parameters.specs.declared.Entry.TheVariants.{AnInteger}

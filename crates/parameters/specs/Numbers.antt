@@ -1,5 +1,5 @@
 -- The fixed parameters as numbers: a point is x and y, a real its mantissa and its exponent.
-use Rattle.std.specs.Prelude.{ℕ, ◌≤◌, ◌≡◌, List, [], ◌∷◌, ◌++◌, length, take, ℤ, pos}
+use Rattle.std.specs.Prelude.{◌≤◌, ◌≡◌, List, [], ◌∷◌, ◌++◌, length, take, ℤ, pos}
 use Rattle.memory.specs.declared.Point.{Point}
 use Rattle.parameters.specs.declared.Numbers.{Numbers}
 use Rattle.parameters.specs.Shapes.{Value, number, scaled, place}

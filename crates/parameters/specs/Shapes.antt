@@ -1,5 +1,5 @@
 -- The kinds of parameters: fixed parts, and perhaps a string or an array behind them.
-use Rattle.std.specs.Prelude.{ℕ, List, [], ◌∷◌, ℤ}
+use Rattle.std.specs.Prelude.{List, [], ◌∷◌, ℤ}
 use Rattle.memory.specs.declared.Point.{Point}
 use Rattle.table.specs.Table.{ParameterKind}
 use Rattle.table.specs.Table as K

@@ -1,8 +1,8 @@
 -- The other way: what reads as a report is what the writer gives for it, minus nought aside.
 use Prim.Native.Nat.{ℕ, zero, suc, ◌+◌, ◌-◌, ◌*◌, ◌/◌, ◌%◌, ◌≤◌, ◌<◌}
 use mathlib.Core.Path.{◌≡◌, refl, sym, ◌∙◌, ap}
-use mathlib.Core.Bool.{Bool, true, false, ◌&&◌}
-use mathlib.Core.List.{List, [], ◌∷◌, ◌++◌, map}
+use mathlib.Core.Bool.{Bool, true, false}
+use mathlib.Core.List.{List, [], ◌∷◌, map}
 use mathlib.Core.Logic.{◌⊎◌, inl, inr, ⊎_elim}
 use native.Mathlib.Omega.{arith}
 use native.Mathlib.Decide.{ℕ_discrete}
@@ -19,9 +19,9 @@ use Rattle.numbers.specs.Integers.{low_of}
 use Rattle.numbers.specs.Counts.{as_count, count_in}
 use Rattle.characters.specs.Characters.{is_character, are_characters, as_bytes}
 use Rattle.reports.specs.declared.TakenString.{TakenString}
-use Rattle.reports.specs.Reading.{byte_within, report_value, report_from, report_at, characters_end, string_at, entries_at}
+use Rattle.reports.specs.Reading.{byte_within, report_from, report_at, characters_end, string_at, entries_at}
 use Rattle.reports.specs.Writing.{spell_report_of, spell_report, is_report, is_string}
-use Rattle.reports.proofs.Stepping.{Stood, stood_of, run-within, three, Three, behind}
+use Rattle.reports.proofs.Stepping.{stood_of, run-within, three, Three, behind}
 use Rattle.reports.proofs.Filling.{next-entry}
 
 -- a number of a magnitude and a sign has these again, but for minus nought

@@ -1,7 +1,6 @@
 -- Reading a report, by what its parts gave.
 use Prim.Native.Nat.{ℕ, zero, suc, ◌+◌, ◌-◌, ◌≤◌, ◌<◌}
 use mathlib.Core.Path.{◌≡◌, refl, sym, ◌∙◌, ap}
-use mathlib.Core.Bool.{Bool, true, false}
 use mathlib.Core.List.{List}
 use native.Mathlib.Omega.{arith}
 use borrow.Author.Tests.{lt-ltb, le-ltb, le-leb, lt-leb, ltb-true, ltb-false}
@@ -15,19 +14,16 @@ use Rattle.refusals.specs.Answers.{Answer, done, refused, Read, ends_after}
 use Rattle.refusals.proofs.Cases.{by_pick, by_then, Done, done-of, done-map, is-done, not_done}
 use Rattle.refusals.proofs.Many.{passed_all, passed_one, passed_none}
 use Rattle.wire.specs.declared.ByteRead.{ByteRead}
-use Rattle.wire.specs.declared.ByteRead.TheVariants as ByteRead
 use Rattle.wire.specs.declared.TakenByte.{TakenByte}
 use Rattle.wire.specs.Taking.{byte_of}
 use Rattle.numbers.specs.declared.IntegerRead.TheVariants as IntegerRead
 use Rattle.numbers.specs.declared.CountRead.{CountRead}
-use Rattle.numbers.specs.declared.CountRead.TheVariants as CountRead
 use Rattle.numbers.specs.declared.TakenCount.{TakenCount}
 use Rattle.signs.specs.Signs.{is_negative}
 use Rattle.numbers.specs.Integers.{integer_of}
 use Rattle.numbers.specs.Counts.{count_in, count_of}
 use Rattle.reports.specs.declared.StringRead.TheVariants as StringRead
 use Rattle.reports.specs.declared.RunEnd.{RunEnd}
-use Rattle.reports.specs.declared.RunEnd.TheVariants as RunEnd
 use Rattle.reports.specs.Reading.{byte_within, report_value, report_from, report_at, string_of, run_end_of, characters_end, string_at, entries_at, after_string}
 
 -- ---- a byte byte_within its bounds

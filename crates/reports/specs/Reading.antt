@@ -9,10 +9,8 @@ use Rattle.signs.specs.Signs.{signed_of}
 use Rattle.numbers.specs.Counts.{count_in}
 use Rattle.characters.specs.Characters.{as_entries}
 use Rattle.reports.specs.declared.StringRead.{StringRead}
-use Rattle.reports.specs.declared.StringRead.TheVariants as StringRead
 use Rattle.reports.specs.declared.TakenString.{TakenString}
 use Rattle.reports.specs.declared.RunEnd.{RunEnd}
-use Rattle.reports.specs.declared.RunEnd.TheVariants as RunEnd
 
 -- a byte from least to most, as it stands
 unfoldable pub byte_within : ℕ → ℕ → List ℕ → ℕ → Answer (Read ℕ)

@@ -1,0 +1,36 @@
+use Rattle.parameters.proofs.Looks.{of_kinds}
+use borrow.Author.Rules.{rules}
+use Rattle.parameters.proofs.look_at.Goals as goal
+
+pub returns-in-OneInteger : goal.returns-in-OneInteger
+returns-in-OneInteger c = search (rules, of_kinds)
+
+pub returns-in-TwoIntegers : goal.returns-in-TwoIntegers
+returns-in-TwoIntegers c = search (rules, of_kinds)
+
+pub returns-in-ThreeIntegers : goal.returns-in-ThreeIntegers
+returns-in-ThreeIntegers c = search (rules, of_kinds)
+
+pub returns-in-OnePoint : goal.returns-in-OnePoint
+returns-in-OnePoint c = search (rules, of_kinds)
+
+pub returns-in-TwoPoints : goal.returns-in-TwoPoints
+returns-in-TwoPoints c = search (rules, of_kinds)
+
+pub returns-in-AReal : goal.returns-in-AReal
+returns-in-AReal c = search (rules, of_kinds)
+
+pub returns-in-AString : goal.returns-in-AString
+returns-in-AString c = search (rules, of_kinds)
+
+pub returns-in-AnArray : goal.returns-in-AnArray
+returns-in-AnArray c = search (rules, of_kinds)
+
+pub returns-in-IntegerThenArray : goal.returns-in-IntegerThenArray
+returns-in-IntegerThenArray c = search (rules, of_kinds)
+
+pub returns-in-IntegerThenString : goal.returns-in-IntegerThenString
+returns-in-IntegerThenString c = search (rules, of_kinds)
+
+pub returns-in-TwoCharacters : goal.returns-in-TwoCharacters
+returns-in-TwoCharacters c = search (rules, of_kinds)
