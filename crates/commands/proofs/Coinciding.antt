@@ -1,6 +1,5 @@
 -- Two conforming answers of `read_command` coincide: values and tail fix the parameters.
-use mathlib.Core.Path.{◌≡◌, refl, sym, ◌∙◌, ap}
-use mathlib.Core.List.{List, [], ◌∷◌}
+use mathlib.Core.Path.{◌≡◌, ap}
 use Rattle.refusals.specs.Answers.{Answer, done, refused}
 use Rattle.refusals.proofs.Coinciding.{named, named_back, coincide}
 use Rattle.parameters.proofs.Coinciding.{parameters_for, parameters-for}

@@ -12,7 +12,6 @@ use Rattle.memory.specs.declared.DelMode.{DelMode}
 use Rattle.memory.specs.declared.Remembered.{Remembered}
 use Rattle.refusals.specs.declared.Refusal.{Refusal}
 use Rattle.refusals.specs.declared.Refusal.TheVariants.{BytesEnd, UnknownCommand, NewEscape, TooShort}
-use Rattle.refusals.specs.Refusals.{number_of}
 use Rattle.refusals.specs.Answers.{Answer, done, refused, then, pick}
 use Rattle.wire.specs.declared.TakenByte.{TakenByte}
 use Rattle.wire.specs.declared.ByteRead.{ByteRead}
@@ -36,7 +35,6 @@ use Rattle.commands.specs.declared.TakenLetters.{TakenLetters}
 use Rattle.commands.specs.declared.TakenCommand.{TakenCommand}
 use Rattle.commands.specs.declared.HeadRead.{HeadRead}
 use Rattle.commands.specs.declared.HeadRead.TheVariants.{Head}
-use Rattle.commands.specs.Behind.{leading, after_letters}
 use Rattle.commands.specs.Reading.{letter_here, letter_at, Letters, letters_of, head_of, second_at, head_at, Meaning, meaning, command_of_letters, body_at, command_at, ToldCommand, told, command_of, after_entries}
 
 -- ---- the letters
