@@ -1,6 +1,5 @@
 -- Two conforming answers of `read_item` coincide: what an item says fixes the item.
-use Prim.Native.Nat.{ℕ}
-use mathlib.Core.Path.{◌≡◌, refl, sym, ◌∙◌, ap}
+use mathlib.Core.Path.{◌≡◌, refl, ap}
 use Rattle.refusals.proofs.Coinciding.{named, named_back, coincide}
 use Rattle.commands.specs.Reading.{ToldCommand}
 use Rattle.commands.proofs.Coinciding.{taken_for, taken-for}

@@ -1,8 +1,8 @@
 -- Whether a command may be written, as the code tests it.
 use Prim.Native.Nat.{ℕ, ◌≤◌, ◌<◌}
-use mathlib.Core.Path.{◌≡◌, sym, ◌∙◌, ap}
+use mathlib.Core.Path.{◌≡◌, sym, ◌∙◌}
 use mathlib.Core.Bool.{Bool, true, false, ◌&&◌}
-use mathlib.Core.List.{List, [], ◌∷◌}
+use mathlib.Core.List.{List}
 use borrow.Author.Tests.{le-leb, lt-leb}
 use lib.Dec.{eqb}
 use lib.ListN.{length}
@@ -26,7 +26,7 @@ use Rattle.parameters.specs.declared.Real.{Real}
 use Rattle.parameters.specs.declared.Tail.{Tail}
 use Rattle.parameters.specs.Shapes.{list_of, tail_meant, values_of, tail_of}
 use Rattle.commands.specs.declared.Command.{Command}
-use Rattle.writable.specs.Writable.{kind_for, kind_number, is_kind, is_entry, are_entries, is_value, are_values, is_tail, fits, is_command}
+use Rattle.writable.specs.Writable.{kind_for, kind_number, is_kind, is_entry, are_entries, are_values, is_tail, fits, is_command}
 
 -- ---- letters
 

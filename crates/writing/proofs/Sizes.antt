@@ -1,7 +1,7 @@
 -- How long a command gets: where a 127 is data, each byte is sent as itself.
 use Prim.Native.Nat.{ℕ, ◌+◌, ◌*◌, ◌/◌, ◌≤◌}
-use mathlib.Core.Path.{◌≡◌, refl, sym, ◌∙◌, ap}
-use mathlib.Core.Bool.{Bool, true, false, ◌&&◌}
+use mathlib.Core.Path.{◌≡◌, refl, ◌∙◌, ap}
+use mathlib.Core.Bool.{Bool, true, ◌&&◌}
 use mathlib.Core.List.{List, [], ◌∷◌, ◌++◌}
 use native.Mathlib.Omega.{arith}
 use borrow.Author.Tests.{leb-true}
@@ -11,7 +11,7 @@ use lib.IntN.{ℤ, pos, nat_abs}
 use Rattle.memory.specs.declared.DelMode.{DelMode}
 use Rattle.memory.specs.declared.DelMode.TheVariants.{Data, Filler}
 use Rattle.memory.specs.declared.Remembered.{Remembered}
-use Rattle.refusals.proofs.Cases.{by_pick, and_left, and_right}
+use Rattle.refusals.proofs.Cases.{by_pick, and_left}
 use Rattle.wire.specs.Sending.{sent_in, sent}
 use Rattle.signs.specs.Signs.{is_negative}
 use Rattle.numbers.specs.Integers.{low_of, highs_of, spell_of, spell}

@@ -1,0 +1,6 @@
+use Rattle.lines.proofs.Lined.{command-poured}
+use borrow.Author.Rules.{rules}
+use Rattle.lines.proofs.put_command.Goals as goal
+
+pub returns : goal.returns
+returns c = search command-poured

@@ -1,0 +1,6 @@
+use Rattle.lines.proofs.Lined.{del-poured}
+use borrow.Author.Rules.{rules}
+use Rattle.lines.proofs.put_del.Goals as goal
+
+pub returns : goal.returns
+returns c = search del-poured

@@ -1,0 +1,6 @@
+use Rattle.lines.proofs.Lined.{last-poured}
+use borrow.Author.Rules.{rules}
+use Rattle.lines.proofs.put_last.Goals as goal
+
+pub returns : goal.returns
+returns c = search last-poured

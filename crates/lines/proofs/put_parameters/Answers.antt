@@ -1,0 +1,6 @@
+use Rattle.lines.proofs.Lined.{parameters_poured}
+use borrow.Author.Rules.{rules}
+use Rattle.lines.proofs.put_parameters.Goals as goal
+
+pub returns : goal.returns
+returns c = search parameters_poured
