@@ -6,7 +6,6 @@ use Rattle.refusals.specs.Answers.{pick}
 use Rattle.refusals.proofs.Numbers.{not_nought}
 use Rattle.refusals.proofs.Coinciding.{named, named_back, coincide}
 use Rattle.defining.specs.declared.Defining.{Defining}
-use Rattle.defining.specs.declared.Defining.TheVariants as Defining
 use Rattle.defining.specs.Defining.{defining_of}
 
 defining_back : ℕ → Defining

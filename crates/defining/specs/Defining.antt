@@ -5,7 +5,6 @@ use Rattle.refusals.specs.Answers.{pick, demand, every}
 use Rattle.ranges.specs.Ranges.{within}
 use Rattle.macros.specs.Store.{Entry, Layout, size_of, stored, entries, well_formed, keep, below, is_macro_number}
 use Rattle.defining.specs.declared.Defining.{Defining}
-use Rattle.defining.specs.declared.Defining.TheVariants as Defining
 
 -- ---- one macro put in its place
 

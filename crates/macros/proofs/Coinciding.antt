@@ -9,9 +9,7 @@ use Rattle.refusals.proofs.Cases.{bool_apart}
 use Rattle.refusals.proofs.Numbers.{not_nought}
 use Rattle.refusals.proofs.Coinciding.{named, named_back, coincide}
 use Rattle.macros.specs.declared.Finding.{Finding}
-use Rattle.macros.specs.declared.Finding.TheVariants as Finding
 use Rattle.macros.specs.declared.Place.{Place}
-use Rattle.macros.specs.declared.Place.TheVariants as Place
 use Rattle.macros.specs.declared.Gap.{Gap}
 use Rattle.macros.specs.declared.Survey.{Survey}
 use Rattle.macros.specs.declared.Survey.TheVariants.{Formed, Malformed}

@@ -24,7 +24,6 @@ use Rattle.macros.specs.declared.Survey.{Survey}
 use Rattle.macros.specs.declared.Survey.TheVariants.{Formed, Malformed}
 use Rattle.macros.specs.declared.Part.{Part}
 use Rattle.macros.specs.declared.Place.{Place}
-use Rattle.macros.specs.declared.Place.TheVariants as Place
 use Rattle.macros.specs.declared.Finding.TheVariants as Finding
 use Rattle.macros.specs.Store.{Layout, size_of, below, entries, well_formed, is_macro_number, body_of, body_in_either, look_refusal, find_refusal, looked_up, finding_of, Placed, placed, store_named, bytes_placed, body_pointer, body_place_of, entry_size}
 use Rattle.macros.specs.Fronts.{GapIs, FormedIs, SurveyIs}

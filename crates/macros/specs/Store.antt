@@ -4,10 +4,8 @@ use Rattle.refusals.specs.Refusals.{number_of}
 use Rattle.refusals.specs.Answers.{pick, demand, every}
 use Rattle.ranges.specs.Ranges.{within}
 use Rattle.macros.specs.declared.Finding.{Finding}
-use Rattle.macros.specs.declared.Finding.TheVariants as Finding
 use Rattle.macros.specs.declared.Part.{Part}
 use Rattle.macros.specs.declared.Place.{Place}
-use Rattle.macros.specs.declared.Place.TheVariants as Place
 
 pub record Entry : Type 0 where
   pub number : ℕ

@@ -1,9 +1,7 @@
 use Prim.Native.Nat.{◌-◌}
 use lib.ListN.{length}
 use Rattle.macros.specs.Store.{three_bytes}
-use Rattle.macros.proofs.Headers.{Hopping, hoppings}
-use Rattle.macros.proofs.Fronts.{passings}
-use borrow.Author.Rules.{rules}
+use Rattle.macros.proofs.Headers.{Hopping}
 use Rattle.macros.proofs.body_by_headers.Given as goal
 
 abbrev pub invariant-loop-n : goal.invariant-loop-n

@@ -1,16 +1,9 @@
-use Prim.Native.Nat.{◌-◌}
 use native.Mathlib.Omega.{arith}
-use lib.ListN.{length}
-use Rattle.macros.specs.Store.{three_bytes}
 use Rattle.macros.specs.Fronts.{Bytes}
 use Rattle.macros.proofs.Layouts.{three-lawful}
-use Rattle.macros.proofs.Fronts.{passings, Surveying, surveyings, surveyed-end}
+use Rattle.macros.proofs.Fronts.{passings, surveyings, surveyed-end}
 use borrow.Author.Rules.{rules}
 use Rattle.macros.proofs.gap_for.Goals as goal
-
-bytes-at : (c : tie.After-shared-slice-known invariant-loop decreases_loop) → Bytes c.before.args.store.now
-unfolding Bytes
-bytes-at c i = omega (arith, c.shared-slice-known.given i)
 
 pub loop-n-init : goal.loop-n-init
 loop-n-init c = search (rules, passings, surveyings)
@@ -37,4 +30,5 @@ pub enum_told-1 : goal.enum_told-1
 enum_told-1 c = search (rules, passings, surveyings)
 
 pub returns-in-NoEntry : goal.returns-in-NoEntry
-returns-in-NoEntry c = let bytes = bytes-at c.before.before.before.before in search (rules, three-lawful, surveyed-end)
+unfolding Bytes
+returns-in-NoEntry c = let bytes : Bytes c.args.store.now = λ i. omega (arith, c.type_inv.store i) in search (rules, three-lawful, surveyed-end)

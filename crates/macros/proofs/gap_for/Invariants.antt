@@ -1,11 +1,7 @@
 use Prim.Native.Nat.{◌-◌}
-use native.Mathlib.Omega.{arith}
 use lib.ListN.{length}
 use Rattle.macros.specs.Store.{three_bytes}
-use Rattle.macros.specs.Fronts.{Bytes}
-use Rattle.macros.proofs.Layouts.{three-lawful}
-use Rattle.macros.proofs.Fronts.{passings, Surveying, surveyings, surveyed-end}
-use borrow.Author.Rules.{rules}
+use Rattle.macros.proofs.Fronts.{Surveying}
 use Rattle.macros.proofs.gap_for.Given as goal
 
 abbrev pub invariant-loop-n : goal.invariant-loop-n

@@ -4,10 +4,6 @@ use Rattle.macros.proofs.Fronts.{heads}
 use borrow.Author.Rules.{rules}
 use Rattle.macros.proofs.with_body.Goals as goal
 
-bytes-at : (c : tie.After-shared-slice-known) → Bytes c.before.args.store.now
-unfolding Bytes
-bytes-at c i = omega (arith, c.shared-slice-known.given i)
-
 pub returns-then-long-lt1 : goal.returns-then-long-lt1
 returns-then-long-lt1 c = search (rules, heads)
 
@@ -15,4 +11,5 @@ pub returns-then-room-long : goal.returns-then-room-long
 returns-then-room-long c = search (rules, heads)
 
 pub returns : goal.returns
-returns c = let bytes = bytes-at c.before.before.before.before in search (rules, heads)
+unfolding Bytes
+returns c = let bytes : Bytes c.args.store.now = λ i. omega (arith, c.type_inv.store i) in search (rules, heads)
