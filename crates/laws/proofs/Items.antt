@@ -1,17 +1,17 @@
 -- The laws of whole commands on the calls themselves: over the bytes that `write_command` gives and the item that `read_item` gives.
 use Prim.Native.Nat.{ℕ, ◌+◌, ◌≤◌}
 use mathlib.Core.Path.{◌≡◌, refl, sym, ◌∙◌, ap, subst}
-use mathlib.Core.Bool.{Bool, true, false}
+use mathlib.Core.Bool.{true}
 use mathlib.Core.List.{List, ◌++◌}
 use native.Mathlib.Omega.{arith}
 use borrow.Author.Tests.{leb-true}
 use lib.Dec.{leb, ltb, eqb}
 use lib.ListN.{length, get_or, take, drop}
-use lib.Seq.{sets, sets-eq, take_at}
+use lib.Seq.{sets-eq, take_at}
 use lib.IntN.{ℤ}
 use Rattle.memory.specs.declared.Remembered.{Remembered}
 use Rattle.memory.specs.Memory.{inside}
-use Rattle.refusals.specs.Answers.{Answer, done, refused, pick}
+use Rattle.refusals.specs.Answers.{Answer, done, refused}
 use Rattle.refusals.proofs.Cases.{by_pick, Done, done-of, is-done, not_done}
 use Rattle.wire.specs.Sending.{room_for, write_at, write_if, after_write}
 use Rattle.parameters.specs.Shapes.{tail_of}

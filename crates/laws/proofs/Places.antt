@@ -1,11 +1,11 @@
 -- Where reading a command ends, and where it is refused: behind its ESC, and no farther than the end of the bytes.
 use Prim.Native.Nat.{ℕ, zero, suc, ◌+◌, ◌*◌, ◌%◌, ◌≤◌, ◌<◌}
-use mathlib.Core.Path.{◌≡◌, refl, sym, ◌∙◌, ap, subst}
-use mathlib.Core.Bool.{Bool, true, false}
+use mathlib.Core.Path.{◌≡◌, refl, ◌∙◌, ap, subst}
+use mathlib.Core.Bool.{Bool, true}
 use mathlib.Core.List.{List, [], ◌∷◌}
 use mathlib.Core.Logic.{◌⊎◌, inl, inr}
 use native.Mathlib.Omega.{arith}
-use borrow.Author.Tests.{ltb-true, ltb-false}
+use borrow.Author.Tests.{ltb-true}
 use lib.Dec.{ltb, leb, eqb}
 use lib.ListN.{length, get_or}
 use lib.IntN.{ℤ, nat_abs}
@@ -13,14 +13,14 @@ use Rattle.memory.specs.declared.DelMode.{DelMode}
 use Rattle.memory.specs.declared.Point.{Point}
 use Rattle.memory.specs.declared.Remembered.{Remembered}
 use Rattle.memory.specs.Memory.{inside}
-use Rattle.refusals.specs.Answers.{Answer, done, refused, Read, then, pick, ends_after, every}
+use Rattle.refusals.specs.Answers.{Answer, done, refused, Read, then, ends_after, every}
 use Rattle.refusals.proofs.Cases.{by_pick, done-of, and_left, and_right, Ranged, ranged_done, ranged_refused, farther, ranged_then, ranged_to}
 use Rattle.wire.specs.Taking.{past_dels, pair_at, found_at, byte_at}
 use Rattle.wire.proofs.Feeds.{dels_on, dels_within, Took, took}
 use Rattle.signs.specs.Signs.{is_negative}
 use Rattle.signs.specs.Signs.{most_magnitude}
 use Rattle.numbers.specs.Integers.{integer_from, integer_at, in_range}
-use Rattle.numbers.specs.Counts.{as_count, count_in, count_at}
+use Rattle.numbers.specs.Counts.{count_in, count_at}
 use Rattle.points.specs.declared.PointBytes.{PointBytes}
 use Rattle.points.specs.Layout.{bytes_of}
 use Rattle.table.specs.Table.{ParameterKind, Tabled, in_table, not_in_table, kind_of, begins}
@@ -35,7 +35,7 @@ use Rattle.writable.specs.Writable.{is_value, are_values}
 use Rattle.parameters.specs.Behind.{after_value, after_values}
 use Rattle.commands.specs.Behind.{leading, is_ignore_deletes, after_letters, after_command}
 use Rattle.laws.proofs.RoundTrip.{still_inside}
-use Rattle.laws.proofs.Shortest.{FixedShown, part-good, LetterShown, letter_shown, HeadShown, head_good}
+use Rattle.laws.proofs.Shortest.{FixedShown, part-good, letter_shown, HeadShown, head_good}
 
 -- where reading goes on
 abbrev onward : {A : Type 0} → Read A → ℕ

@@ -1,19 +1,19 @@
 -- What refuses a command has a number of 1 to 6. "Refusal 7 comes only for a whole command": with room for 256 entries it never comes.
 use Prim.Native.Nat.{ℕ, zero, suc, ◌+◌, ◌*◌, ◌%◌, ◌≤◌, ◌<◌}
-use mathlib.Core.Path.{◌≡◌, refl, sym, ◌∙◌, ap, subst}
-use mathlib.Core.Bool.{Bool, true, false, ◌&&◌}
+use mathlib.Core.Path.{◌≡◌, refl, ◌∙◌, ap}
+use mathlib.Core.Bool.{Bool, true, ◌&&◌}
 use mathlib.Core.Logic.{◌⊎◌, inl, inr}
 use mathlib.Core.List.{List, [], ◌∷◌}
 use native.Mathlib.Omega.{arith}
 use borrow.Author.Tests.{leb-true, leb-false}
 use lib.Dec.{ltb, leb, eqb}
 use lib.ListN.{length, get_or}
-use lib.IntN.{ℤ, nat_abs}
+use lib.IntN.{nat_abs}
 use Rattle.memory.specs.declared.DelMode.{DelMode}
 use Rattle.memory.specs.declared.Point.{Point}
 use Rattle.memory.specs.declared.Remembered.{Remembered}
 use Rattle.memory.specs.Memory.{inside}
-use Rattle.refusals.specs.Answers.{Answer, done, refused, Read, then, pick, ends_after}
+use Rattle.refusals.specs.Answers.{Answer, done, refused, Read, then, ends_after}
 use Rattle.refusals.proofs.Cases.{by_pick, done-of, and_left, and_right}
 use Rattle.wire.specs.Taking.{past_dels, pair_at, found_at, byte_at}
 use Rattle.signs.specs.Signs.{is_negative}
@@ -22,15 +22,14 @@ use Rattle.numbers.specs.Integers.{integer_from, integer_at, in_range}
 use Rattle.ranges.specs.Ranges.{most_entries}
 use Rattle.numbers.specs.Counts.{count_in, count_at}
 use Rattle.points.specs.declared.PointBytes.{PointBytes}
-use Rattle.points.specs.Layout.{bytes_of}
 use Rattle.points.specs.Reading.{by_kind, not_allowed, ends_at, lo_x, last_at, after_lo_y, after_upper, after_hi_y, point_from, point_at}
 use Rattle.table.specs.Table.{Tabled, in_table, not_in_table, kind_of, begins}
 use Rattle.parameters.specs.declared.Entry.{Entry}
 use Rattle.parameters.specs.declared.Entry.TheVariants.{AnInteger, ACharacter}
 use Rattle.parameters.specs.Entries.{entry_at, as_entry, CountedRun, run_at}
 use Rattle.parameters.specs.Shapes.{Tailed, no_list, list_of, Part, single, real, point, Shape, shape_of}
-use Rattle.parameters.specs.Looking.{two_entries_at, Fixed, part_at, fixed_at, tail_at, Parsed, parameters_at}
-use Rattle.commands.specs.Reading.{letter_here, letter_at, Letters, completed, second_at, head_at, Meaning, body_at, command_at}
+use Rattle.parameters.specs.Looking.{two_entries_at, part_at, fixed_at, tail_at, Parsed, parameters_at}
+use Rattle.commands.specs.Reading.{letter_here, letter_at, completed, second_at, head_at, Meaning, body_at, command_at}
 use Rattle.laws.proofs.Shortest.{FixedShown, part-good}
 use Rattle.laws.proofs.Places.{after-inside}
 

@@ -36,7 +36,7 @@ use Rattle.parameters.specs.Entries.{entry_at, entry_values, CountedRun, run_at}
 use Rattle.parameters.specs.Shapes.{Tailed, no_list, list_of, Part, single, real, point, Value, number, scaled, place, shape_of, values_of, tail_of}
 use Rattle.parameters.specs.Looking.{two_entries_at, part_at, fixed_at, tail_at, Parsed, parameters_at, entry_in}
 use Rattle.commands.specs.declared.Command.{Command}
-use Rattle.commands.specs.Reading.{letter_here, letter_at, Letters, second_at, head_at, Meaning, meaning, body_at, command_at}
+use Rattle.commands.specs.Reading.{letter_here, letter_at, Letters, second_at, head_at, meaning, body_at, command_at}
 use Rattle.writable.specs.Writable.{kind_for, kind_number, same_kind, is_kind, is_entry, are_entries, is_value, are_values, is_tail, fits, is_command}
 use Rattle.parameters.specs.Behind.{after_value, after_values}
 use Rattle.writing.specs.Writing.{spell_entry, spell_entries, spell_value, spell_values, spell_tail, spell_parameters, spell_command}

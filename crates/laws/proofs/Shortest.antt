@@ -2,28 +2,26 @@
 -- within. Said over the kinds of parameter.
 use Prim.Native.Nat.{ℕ, zero, suc, ◌+◌, ◌*◌, ◌≤◌, ◌<◌}
 use mathlib.Core.Path.{◌≡◌, refl, sym, ◌∙◌, ap}
-use mathlib.Core.Bool.{Bool, true, false, ◌&&◌}
+use mathlib.Core.Bool.{Bool, true, ◌&&◌}
 use mathlib.Core.List.{List, [], ◌∷◌, ◌++◌, map, append-nil, append_assoc}
 use native.Mathlib.Omega.{arith}
 use borrow.Author.Tests.{le-leb, ltb-true, eq-eqb}
 use lib.Dec.{leb, ltb, eqb}
 use lib.ListN.{length, get_or, length-append}
-use lib.IntN.{ℤ, pos, nat_abs}
-use Rattle.memory.specs.declared.Point.{Point}
+use lib.IntN.{ℤ, pos}
 use Rattle.memory.specs.declared.DelMode.{DelMode}
 use Rattle.memory.specs.declared.Remembered.{Remembered}
-use Rattle.memory.specs.Memory.{inside, remember}
-use Rattle.refusals.specs.Answers.{Answer, done, refused, Read, then, pick, ends_after, all_after, every}
+use Rattle.memory.specs.Memory.{inside}
+use Rattle.refusals.specs.Answers.{done, Read, pick, ends_after, all_after, every}
 use Rattle.refusals.proofs.Cases.{by_pick, by_then, Done, done-of, done-map, is-done, not_done, and_left, and_right}
 use Rattle.wire.specs.Taking.{past_dels, byte_at}
 use Rattle.wire.specs.Sending.{sent}
 use Rattle.wire.proofs.Feeds.{dels_on, took, took_least}
 use Rattle.signs.specs.Signs.{is_integer}
-use Rattle.numbers.specs.Integers.{spell, integer_at}
+use Rattle.numbers.specs.Integers.{spell}
 use Rattle.numbers.specs.Counts.{count_at}
 use Rattle.numbers.proofs.Shortest.{integer-shown, count-shown}
 use Rattle.points.specs.Reading.{point_at}
-use Rattle.points.specs.Writing.{spell_point}
 use Rattle.points.proofs.Shortest.{point-shown}
 use Rattle.table.specs.Table.{ParameterKind, Tabled, in_table, not_in_table, kind_of, begins}
 use Rattle.table.specs.Table as K
@@ -33,7 +31,7 @@ use Rattle.parameters.specs.Entries.{entry_at, as_entry, entry_values, CountedRu
 use Rattle.parameters.specs.Shapes.{Tailed, no_list, list_of, Part, single, real, point, Shape, Value, number, scaled, place, shape_of, values_of, tail_of}
 use Rattle.parameters.specs.Looking.{TwoEntries, two_entries_at, Fixed, part_at, fixed_at, tail_at, Parsed, parameters_at, entry_in, parsed_entries}
 use Rattle.commands.specs.declared.Command.{Command}
-use Rattle.commands.specs.Reading.{letter_here, letter_at, Letters, completed, second_at, head_at, Meaning, meaning, body_at, command_at}
+use Rattle.commands.specs.Reading.{letter_here, letter_at, Letters, completed, second_at, head_at, Meaning, body_at, command_at}
 use Rattle.writable.specs.Writable.{kind_for, kind_number, is_kind, is_entry, are_entries, is_value, are_values, is_tail, fits, is_command}
 use Rattle.parameters.specs.Behind.{after_value, after_values}
 use Rattle.parameters.proofs.Kept.{fixed_kept}

@@ -5,7 +5,7 @@ use Rattle.memory.specs.declared.Remembered.{Remembered}
 use Rattle.memory.specs.Memory.{fresh_memory}
 use Rattle.refusals.specs.Answers.{pick}
 use Rattle.ranges.specs.Ranges.{most_entries}
-use Rattle.commands.specs.Reading.{Meaning, ToldCommand}
+use Rattle.commands.specs.Reading.{Meaning}
 use Rattle.stream.specs.Items.{Itemed, nothing, text, del, command, refused_command, refused_call, item_at, told_item, next_start, next_kept}
 use Rattle.lines.specs.Lines.{line_of, last_line}
 

@@ -1,0 +1,15 @@
+use borrow.Author.Rules.{rules}
+use Rattle.listing.proofs.Listings.{goings}
+use Rattle.listing.proofs.put_lines.Goals as goal
+
+pub loop-turns-init : goal.loop-turns-init
+loop-turns-init c = search (rules, goings)
+
+pub loop-turns-preserved : goal.loop-turns-preserved
+loop-turns-preserved c = search (rules, goings)
+
+pub shape_of-out : goal.shape_of-out
+shape_of-out c = search (rules, goings)
+
+pub returns : goal.returns
+returns c = search (rules, goings)
