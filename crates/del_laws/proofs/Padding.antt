@@ -4,10 +4,9 @@ use mathlib.Core.Path.{◌≡◌, refl, sym, ◌∙◌, ap, subst}
 use mathlib.Core.Bool.{Bool, true, false}
 use mathlib.Core.List.{List, [], ◌∷◌}
 use native.Mathlib.Omega.{arith}
-use borrow.Author.Tests.{lt-ltb, le-ltb, ltb-true, ltb-false, eqb-true, eqb-false, ne_eqb, eq-eqb}
+use borrow.Author.Tests.{lt-ltb, le-ltb, ltb-true, ltb-false, eqb-true, ne_eqb}
 use lib.Dec.{ltb, leb, eqb}
 use lib.ListN.{length, get_or}
-use lib.IntN.{ℤ}
 use Rattle.memory.specs.declared.DelMode.{DelMode}
 use Rattle.memory.specs.declared.DelMode.TheVariants.{Data, Filler}
 use Rattle.memory.specs.declared.Remembered.{Remembered}
@@ -24,12 +23,12 @@ use Rattle.parameters.specs.Looking.{Parsed, parameters_at}
 use Rattle.commands.specs.Behind.{is_ignore_deletes, after_letters, after_command}
 use Rattle.commands.specs.Reading.{letter_here, letter_at, Letters, completed, second_at, head_at, Meaning, meaning, body_at, command_at}
 use Rattle.writing.proofs.Sizes.{values-mode}
-use Rattle.stream.specs.Items.{Itemed, nothing, text, del, command, refused_command, refused_call, no_escape, passed_from, is_filler, byte_item, as_item, command_item, item_at}
+use Rattle.stream.specs.Items.{Itemed, nothing, text, del, refused_command, refused_call, no_escape, passed_from, is_filler, byte_item, as_item, command_item, item_at}
 use Rattle.laws.proofs.Shortest.{letter_shown, HeadShown, head_good, command-shown}
 use Rattle.laws.proofs.Partition.{Ends, item-ends, none_left}
 use Rattle.del_laws.specs.Padding.{without_dels, place_without, command_without, unless, item_without, SameItem, SameItems}
 use Rattle.del_laws.proofs.Moving.{moved, moved_then, moved-pick, read_moved, parsed_moved, parameters_moved, entries-moved}
-use Rattle.del_laws.proofs.Places.{place-front, place_end, NoDel, next_place, del-place, past_place, past_clear, end_same, byte_same, still, without_reads}
+use Rattle.del_laws.proofs.Places.{place_end, NoDel, next_place, del-place, past_place, past_clear, end_same, byte_same, still, without_reads}
 
 -- ---- the item at a place within the bytes, by its byte
 

@@ -13,8 +13,8 @@ use Rattle.memory.specs.declared.DelMode.TheVariants.{Data, Filler}
 use Rattle.memory.specs.declared.Remembered.{Remembered}
 use Rattle.memory.specs.Memory.{in_mode}
 use Rattle.refusals.specs.Answers.{Answer, done, refused, Read, pick, past_front}
-use Rattle.refusals.proofs.Cases.{by_pick, bool_apart}
-use Rattle.refusals.proofs.Passing.{past_one, past_here, past_none, past_stops, past_within}
+use Rattle.refusals.proofs.Cases.{by_pick}
+use Rattle.refusals.proofs.Passing.{past_one, past_here, past_none, past_stops}
 use Rattle.wire.specs.Taking.{is_del, past_dels, pair_at, found_at, byte_at}
 use Rattle.wire.proofs.Feeds.{past_no_del, dels_within}
 use Rattle.del_laws.specs.Padding.{without_dels, place_without}

@@ -1,6 +1,6 @@
 -- A call of a macro has one integer, which is the number that the piece hands on.
 use Prim.Native.Nat.{ℕ}
-use mathlib.Core.Path.{◌≡◌, refl, sym, ◌∙◌, ap}
+use mathlib.Core.Path.{◌≡◌, sym, ◌∙◌, ap}
 use mathlib.Core.List.{List, [], ◌∷◌, map}
 use native.Mathlib.Omega.{arith}
 use Rattle.memory.specs.declared.Remembered.{Remembered}
@@ -8,7 +8,7 @@ use Rattle.refusals.specs.Answers.{done}
 use Rattle.table.specs.Table.{ParameterKind, in_table, kind_of}
 use Rattle.table.specs.Table as K
 use Rattle.parameters.specs.declared.Entry.TheVariants.{AnInteger}
-use Rattle.parameters.specs.Shapes.{Tailed, Part, single, Shape, Value, number, scaled, place, shape_of}
+use Rattle.parameters.specs.Shapes.{single, Shape, Value, number, scaled, place, shape_of}
 use Rattle.commands.specs.Reading.{Meaning, command_at}
 use Rattle.laws.proofs.RoundTrip.{part_of}
 use Rattle.laws.proofs.Shortest.{command-shown}
