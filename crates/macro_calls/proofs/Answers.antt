@@ -1,7 +1,7 @@
 -- From what the macro calls answer to the numbers of the exported ones. A signed argument comes back from a callee's contract as the machine
 -- reads it.
 use Prim.Native.Nat.{ℕ}
-use mathlib.Core.Path.{◌≡◌, sym, ◌∙◌, ap}
+use mathlib.Core.Path.{◌≡◌, sym, ◌∙◌}
 use mathlib.Core.List.{List, [], ◌∷◌}
 use lib.ListN.{length}
 use lib.IntN.{ℤ}
@@ -13,15 +13,12 @@ use Rattle.refusals.specs.Refusals.{number_of}
 use Rattle.refusals.specs.Answers.{number, value_or}
 use Rattle.memory.specs.declared.Remembered.{Remembered}
 use Rattle.defining.specs.declared.Defining.{Defining}
-use Rattle.defining.specs.declared.Defining.TheVariants as Defining
 use Rattle.macros.specs.declared.Part.{Part}
 use Rattle.macros.specs.declared.Place.{Place}
-use Rattle.macros.specs.declared.Place.TheVariants as Place
-use Rattle.macros.specs.Store.{three_bytes, Placed, body_place_of, placed}
+use Rattle.macros.specs.Store.{three_bytes, body_place_of, placed}
 use Rattle.defining.specs.Defining.{defining_of, define_refusal, store_after}
 use Rattle.expansion.specs.declared.Expanded.{Expanded}
 use Rattle.expansion.specs.declared.Expansion.{Expansion}
-use Rattle.expansion.specs.declared.Expansion.TheVariants as Expansion
 use Rattle.expansion.specs.Expansion.{expansion_of, expand_told, expand_out}
 use Rattle.coordinates.specs.Remembering.{slots_of, kept_in}
 use Rattle.macro_calls.specs.Slots.{place_fields, count_fields, slots_behind, ExpandedCall}

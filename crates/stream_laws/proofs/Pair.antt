@@ -1,7 +1,7 @@
 -- What ardh_write_command writes, ardh_next_item reads back, anywhere among other bytes.
 use Prim.Native.Nat.{ℕ, ◌+◌, ◌≤◌}
 use mathlib.Core.Path.{◌≡◌, refl, sym, ◌∙◌, ap}
-use mathlib.Core.Bool.{Bool, true, false, ◌&&◌}
+use mathlib.Core.Bool.{Bool, true}
 use mathlib.Core.List.{List, [], ◌∷◌, ◌++◌}
 use native.Mathlib.Omega.{arith}
 use lib.Dec.{leb}
@@ -9,25 +9,24 @@ use lib.ListN.{length, get_or, take}
 use lib.IntN.{ℤ, pos, negsuc}
 use Rattle.memory.specs.declared.Remembered.{Remembered}
 use Rattle.memory.specs.Memory.{inside}
-use Rattle.refusals.specs.Answers.{Answer, done, number, value_or, pick}
+use Rattle.refusals.specs.Answers.{Answer, done, number, value_or}
 use Rattle.refusals.proofs.Cases.{by_pick, and_left, and_right, bool_apart}
 use Rattle.refusals.proofs.Many.{every-split}
 use Rattle.wire.specs.Sending.{room_for, write_at, write_if, after_write}
 use Rattle.coordinates.specs.Coordinates.{coordinate_of, point_given}
 use Rattle.table.specs.Table as K
 use Rattle.table.specs.Table.{ParameterKind, Tabled, in_table, not_in_table, kind_of}
-use Rattle.parameters.specs.declared.Parameters.{Parameters}
 use Rattle.parameters.specs.Shapes.{place, values_of, tail_of}
 use Rattle.parameters.specs.Numbers.{numbers_of, four_of}
 use Rattle.commands.specs.declared.Command.{Command}
 use Rattle.writable.specs.Writable.{is_kind, is_value, are_values, is_tail, fits, is_command}
 use Rattle.writing.specs.Writing.{spell_command, write_command}
-use Rattle.stream.specs.Items.{Itemed, command, item_at, told_item, after_item}
+use Rattle.stream.specs.Items.{command, item_at, told_item, after_item}
 use Rattle.coordinates.specs.Remembering.{slots_of, kept_in}
-use Rattle.stream_calls.specs.Slots.{item_number, item_fields, item_values, kind_slot, command_fields, remembered_after, NextItem}
+use Rattle.stream_calls.specs.Slots.{item_number, item_fields, item_values, remembered_after, NextItem}
 use Rattle.stream_calls.specs.Given.{of_kind, of_tabled, command_given, kept_behind, slots_after, WrittenCommand}
 use Rattle.laws.specs.Laws.{carried, Back, given}
-use Rattle.laws.proofs.Items.{Wrote, wrote, item_back}
+use Rattle.laws.proofs.Items.{wrote, item_back}
 use Rattle.stream_laws.specs.Pair.{taken, ReadBack}
 
 -- ---- the values
