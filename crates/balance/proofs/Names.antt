@@ -76,7 +76,7 @@ inked_raster beam n [] a e = inked_none
 inked_raster beam n (ch ∷ chs) a e =
     let allowed = every-split is_raster ch chs a in
     let others = every-split (λ v. not (is_row_end v)) ch chs e in
-    inked_append _ _ (inked_character beam n (nat_abs ch) (other-than ch allowed.0 others.0)) (inked_raster _ _ chs allowed.1 others.1)
+    inked_append _ _ (inked_character beam n (nat_abs ch) (other-than ch allowed.0 others.0)) (inked_raster (moved (character_marks beam n (nat_abs ch)) beam) (left_after beam n (nat_abs ch)) chs allowed.1 others.1)
 
 inked_run : (c n : ℕ) → Inked (run c n)
 unfolding Inked

@@ -1,8 +1,8 @@
 -- The tests of a record and the calls that set it, by what their parts gave.
 use Prim.Native.Nat.{ℕ, ◌≤◌, min, max}
 use mathlib.Core.Path.{◌≡◌, refl, sym, ◌∙◌, ap}
-use mathlib.Core.Bool.{Bool, true, false, not, ◌&&◌}
-use borrow.Author.Tests.{not-true, not-false, eq-eqb, ne_eqb, leb-true}
+use mathlib.Core.Bool.{Bool, true, false, ◌&&◌}
+use borrow.Author.Tests.{eq-eqb, ne_eqb, leb-true}
 use lib.Dec.{leb}
 use lib.IntN.{ℤ, pos, negsuc, nat_abs}
 use mir.Syntax.{w32}
@@ -17,26 +17,26 @@ use Rattle.beam.specs.declared.Setting.TheVariants.{Set, Refused}
 use Rattle.beam.specs.Validity.{is_size, is_bits, on_surface, in_viewport, is_valid}
 use Rattle.beam.specs.Settings.{setting_of, settled, Settled, fresh_beam, no_beam, make_fresh, bits_from, with_bits, set_bits, corners_on, framed, set_viewport, beam_at, set_beam, stepped, make_step}
 
--- a test that the code made and turned over
-pub no_of : {r b : Bool} → r ≡ b → not r ≡ true → b ≡ false
-no_of {r} e t = sym e ∙ not-true r t
+-- a test that the code made
+pub no_of : {r b : Bool} → r ≡ b → r ≡ false → b ≡ false
+no_of e t = sym e ∙ t
 
-pub yes_of : {r b : Bool} → r ≡ b → not r ≡ false → b ≡ true
-yes_of {r} e t = sym e ∙ not-false r t
+pub yes_of : {r b : Bool} → r ≡ b → r ≡ true → b ≡ true
+yes_of e t = sym e ∙ t
 
 -- ---- a valid record
 
 module _ (w h : ℕ) (beam : Beam) {s : Bool} (es : s ≡ on_surface w h beam.right beam.top) where
-  pub off_surface : not s ≡ true → false ≡ is_valid w h beam
+  pub off_surface : s ≡ false → false ≡ is_valid w h beam
   unfolding is_valid
   off_surface t = rw (no_of es t)
 
-  module _ (t : not s ≡ false) {v : Bool} (ev : v ≡ in_viewport beam beam.x beam.y) where
-    pub out_of-viewport : not v ≡ true → false ≡ is_valid w h beam
+  module _ (t : s ≡ true) {v : Bool} (ev : v ≡ in_viewport beam beam.x beam.y) where
+    pub out_of-viewport : v ≡ false → false ≡ is_valid w h beam
     unfolding is_valid
     out_of-viewport u = rw (yes_of es t, no_of ev u)
 
-    module _ (u : not v ≡ false) where
+    module _ (u : v ≡ true) where
       pub without_bits : beam.bits ≡ 0 → true ≡ is_valid w h beam
       unfolding is_valid
       without_bits e = rw (yes_of es t, yes_of ev u, eq-eqb beam.bits 0 e)
@@ -48,16 +48,16 @@ module _ (w h : ℕ) (beam : Beam) {s : Bool} (es : s ≡ on_surface w h beam.ri
 -- ---- 11, 8, 8
 
 module _ (w h : ℕ) (old : Beam) (allowed : Bool) (new : Beam) {s : Bool} (es : s ≡ is_size w h) where
-  pub wrong_size : not s ≡ true → setting_of (Refused SurfaceSize old) ≡ settled w h old allowed new
+  pub wrong_size : s ≡ false → setting_of (Refused SurfaceSize old) ≡ settled w h old allowed new
   unfolding setting_of settled
   wrong_size t = rw (no_of es t)
 
-  module _ (t : not s ≡ false) {v : Bool} (ev : v ≡ is_valid w h old) where
-    pub wrong-record : not v ≡ true → setting_of (Refused NotValid old) ≡ settled w h old allowed new
+  module _ (t : s ≡ true) {v : Bool} (ev : v ≡ is_valid w h old) where
+    pub wrong-record : v ≡ false → setting_of (Refused NotValid old) ≡ settled w h old allowed new
     unfolding setting_of settled
     wrong-record u = rw (yes_of es t, no_of ev u)
 
-    module _ (u : not v ≡ false) where
+    module _ (u : v ≡ true) where
       pub wrong-values : allowed ≡ false → setting_of (Refused NotValid old) ≡ settled w h old allowed new
       unfolding setting_of settled
       wrong-values e = rw (yes_of es t, yes_of ev u, e)
@@ -78,17 +78,17 @@ size-h w h e =
     leb-true 1 h (and_left (leb 1 h) (leb h 512) (and_right (leb w 512) (leb 1 h && leb h 512) (and_right (leb 1 w) (leb w 512 && (leb 1 h && leb h 512)) e)))
 
 module _ (w h : ℕ) {s : Bool} (es : s ≡ is_size w h) where
-  pub some-columns : not s ≡ false → 1 ≤ w
+  pub some-columns : s ≡ true → 1 ≤ w
   some-columns t = size-w w h (yes_of es t)
 
-  pub some-rows : not s ≡ false → 1 ≤ h
+  pub some-rows : s ≡ true → 1 ≤ h
   some-rows t = size-h w h (yes_of es t)
 
-  pub not_fresh : not s ≡ true → setting_of (Refused SurfaceSize no_beam) ≡ make_fresh w h
+  pub not_fresh : s ≡ false → setting_of (Refused SurfaceSize no_beam) ≡ make_fresh w h
   unfolding setting_of make_fresh
   not_fresh t = rw (no_of es t)
 
-  pub made_fresh : not s ≡ false → setting_of (Set (fresh_beam w h)) ≡ make_fresh w h
+  pub made_fresh : s ≡ true → setting_of (Set (fresh_beam w h)) ≡ make_fresh w h
   unfolding setting_of make_fresh
   made_fresh t = rw (yes_of es t)
 

@@ -1,6 +1,6 @@
 -- The exported calls ardh_draw_raster, ardh_draw_runs and ardh_set_bits one after another, on what a program lends them: the record's seven slots and
 -- the surface. Each is taken by its promise alone. proofs/Lending.antt proves that they are the balance's calls.
-use Rattle.std.specs.Prelude.{ℕ, ◌≡◌, true, List, [], ◌∷◌, length}
+use Rattle.std.specs.Prelude.{ℕ, ◌≡◌, true, List, [], ◌∷◌}
 use Rattle.pixels.specs.Marks.{colours}
 use Rattle.balance.specs.Balance.{Call, raster, runs, bits, State, ran, named_by, no_row_ends, bits_aside, Balanced}
 use Rattle.pixel_calls.specs.Fields.{beam_in, fields_of}

@@ -5,7 +5,7 @@ use mathlib.Core.Bool.{Bool, true, false, not, ◌&&◌, ◌||◌}
 use mathlib.Core.List.{List, map}
 use native.Mathlib.Nat.{pos_of_ne-zero, le-div_iff_mul-le, one-mul, mul-le-mul}
 use native.Mathlib.Omega.{arith}
-use borrow.Author.Tests.{eq-eqb, ne_eqb, le-leb, lt-leb, leb-true, eqb-true, eqb-false, not-true, not-false}
+use borrow.Author.Tests.{eq-eqb, ne_eqb, le-leb, lt-leb, leb-true, eqb-true, eqb-false}
 use lib.Dec.{leb, eqb}
 use lib.ListN.{length}
 use lib.IntN.{ℤ, nat_abs}
@@ -115,16 +115,16 @@ module _ (list : List ℤ) where
 -- ---- 11, 8, 9
 
 module _ (w h size : ℕ) (beam : Beam) {s : Bool} (es : s ≡ is_surface w h size) where
-  pub no_surface : not s ≡ true → verdict_of (Refused SurfaceSize) ≡ write_refusal w h size beam 0
+  pub no_surface : s ≡ false → verdict_of (Refused SurfaceSize) ≡ write_refusal w h size beam 0
   unfolding verdict_of write_refusal
   no_surface t = rw (no_of es t)
 
-  module _ (t : not s ≡ false) {v : Bool} (ev : v ≡ is_valid w h beam) where
-    pub not_valid : not v ≡ true → verdict_of (Refused NotValid) ≡ write_refusal w h size beam 0
+  module _ (t : s ≡ true) {v : Bool} (ev : v ≡ is_valid w h beam) where
+    pub not_valid : v ≡ false → verdict_of (Refused NotValid) ≡ write_refusal w h size beam 0
     unfolding verdict_of write_refusal
     not_valid u = rw (yes_of es t, no_of ev u)
 
-    module _ (u : not v ≡ false) where
+    module _ (u : v ≡ true) where
       pub no_bits : beam.bits ≡ 0 → verdict_of (Refused BitsNotSet) ≡ write_refusal w h size beam 0
       unfolding verdict_of write_refusal
       no_bits e = rw (yes_of es t, yes_of ev u, eq-eqb beam.bits 0 e)
@@ -191,21 +191,21 @@ module _ (w h size : ℕ) (beam : Beam) where
         numbers : {t : Bool} → a ≡ t → raster_numbers n list ≡ t
         numbers q = sym (rw (to_z-of_z f) at ea) ∙ q
 
-        pub raster-numbers : not a ≡ true → verdict_of (Refused NotValid) ≡ raster_refusal w h size beam n list
+        pub raster-numbers : a ≡ false → verdict_of (Refused NotValid) ≡ raster_refusal w h size beam n list
         unfolding verdict_of raster_refusal
-        raster-numbers t = rw (goes_on (none g) _, numbers (not-true a t))
+        raster-numbers t = rw (goes_on (none g) _, numbers t)
 
-        module _ (t : not a ≡ false) {b : Bool} (eb : b ≡ raster_characters beam.bits (to_z w32 (of_z w32 n)) list) where
+        module _ (t : a ≡ true) {b : Bool} (eb : b ≡ raster_characters beam.bits (to_z w32 (of_z w32 n)) list) where
           characters : {u : Bool} → b ≡ u → raster_characters beam.bits n list ≡ u
           characters q = sym (rw (to_z-of_z f) at eb) ∙ q
 
           pub raster-wrong : b ≡ false → verdict_of (Refused RasterCharacters) ≡ raster_refusal w h size beam n list
           unfolding verdict_of raster_refusal
-          raster-wrong u = rw (goes_on (none g) _, numbers (not-false a t), characters u)
+          raster-wrong u = rw (goes_on (none g) _, numbers t, characters u)
 
           pub raster-allowed : b ≡ true → verdict_of Allowed ≡ raster_refusal w h size beam n list
           unfolding verdict_of raster_refusal
-          raster-allowed u = rw (goes_on (none g) _, numbers (not-false a t), characters u)
+          raster-allowed u = rw (goes_on (none g) _, numbers t, characters u)
 
     module _ (list : List ℤ) where
       pub runs-first : {e : Refusal} → v ≡ Refused e → verdict_of (Refused e) ≡ run_refusal w h size beam list

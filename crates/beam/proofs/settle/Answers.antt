@@ -1,5 +1,4 @@
 use Rattle.beam.proofs.Settling.{wrong_size, wrong-record, set_so, wrong-values}
-use borrow.Author.Rules.{rules}
 use Rattle.beam.proofs.settle.Goals as goal
 
 pub returns-then-not-is_size : goal.returns-then-not-is_size
