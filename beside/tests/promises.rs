@@ -84,7 +84,8 @@ fn quoted(text: &str) -> impl Iterator<Item = &str> {
 /// The crates that a heading of the page speaks of.
 fn spoken_of(heading: &str) -> Names {
     let exported = heading == "The exported calls";
-    let meant = |name: &String| name == heading || (exported && name.ends_with("_calls"));
+    let is_exported = |name: &String| name.ends_with("_calls") || name == "ardhrumesh_c";
+    let meant = |name: &String| name == heading || (exported && is_exported(name));
     crates().into_iter().filter(meant).collect()
 }
 
