@@ -209,15 +209,15 @@ fn each_group_of_rows_is_in_the_table() {
     };
     for text in &texts {
         let column = text
-            .split("abbrev pub column-of-")
+            .split("abbrev pub column_of_")
             .nth(1)
             .unwrap_or("")
             .to_string();
         for group in declared(text, "wrong-") {
             assert!(uses(&column, group), "{group} is in no column");
         }
-        for name in declared(text, "column-of-") {
-            let join = |other: &&String| other.contains("pub none-as-wrong") && uses(other, name);
+        for name in declared(text, "column_of_") {
+            let join = |other: &&String| other.contains("pub none_as_wrong") && uses(other, name);
             assert!(
                 texts.iter().any(|other| join(&other)),
                 "{name} is not joined"
