@@ -12,25 +12,31 @@ program_of() { # CRATE
     printf '%s\n' "$root/crates/$1/out/$1"
 }
 
-# Some crates and those of the repository that they stand on, a line for each, with the crates that it names.
+# Some crates and those of the repository that they stand on, lowest first: the line of each in crates.txt.
 closure() {
     awk -v wanted="$*" '
         function visit(name,    below, count, i) {
             if (!(name in named) || seen[name]++) return
             count = split(named[name], below, " ")
             for (i = 1; i <= count; i++) visit(below[i])
-            print name ":" named[name]
+            print line[name]
         }
         { sub(/#.*/, "") }
         /:/ {
-            name = $0
-            gsub(/[ \t]|:.*/, "", name)
+            name = $1
+            sub(/:.*/, "", name)
             named[name] = substr($0, index($0, ":") + 1)
+            line[name] = $0
         }
         END {
             count = split(wanted, first, " ")
             for (i = 1; i <= count; i++) visit(first[i])
         }' "$root/crates.txt"
+}
+
+# The names of crates, by their lines in crates.txt.
+named() {
+    awk '{ sub(/:.*/, "", $1); print $1 }'
 }
 
 hash_of() {
@@ -41,7 +47,7 @@ hash_of() {
 sources_of() {
     local lines crates
     lines=$(closure "$@")
-    mapfile -t crates < <(cut -d : -f 1 <<<"$lines")
+    mapfile -t crates < <(named <<<"$lines")
     {
         printf '%s\n' "$lines"
         (cd "$root/crates" && find "${crates[@]}" \( -name must-fail -o -regex '[^/]*/out' \) -prune -o -type f -exec sha256sum {} + | LC_ALL=C sort)
@@ -113,7 +119,7 @@ prove_one() { # CRATE
 # says nothing: it is counted. What rt says is kept, and shown where it says that something is not proved.
 prove() { # CRATES..
     local log=$kept/$command.log crates crate count=0 before began
-    mapfile -t crates < <(closure "$@" | cut -d : -f 1)
+    mapfile -t crates < <(closure "$@" | named)
     : >"$log"
     for crate in "${crates[@]}"; do
         before=$(wc -c <"$log")
