@@ -27,7 +27,3 @@ refuse_argument() {
 has() {
     command -v "$1" >/dev/null
 }
-
-needs_rt() {
-    has rt || fail "the toolchain's command rt is not found; install Rattle and put rt on the PATH"
-}

@@ -2,7 +2,7 @@
 
 source "$root/desk/proving.sh"
 
-program="$root/target/bin/$crate"
+program=$(program_of "$crate")
 
 # Proves and builds the program, where it is not what was proved.
 is_ready=''
@@ -12,19 +12,17 @@ ready_program() {
         needs_rt
         alone build_program || exit
     fi
-    needs_emulator
     is_ready=yes
 }
 
 # rt builds a program only where it has no stamp.
 build_program() {
-    local sources all
+    local sources
     is_proved "$program" "$crate" && return
     sources=$(sources_of "$crate")
-    all=$(closure "$crate" | wc -l)
-    say "the $crate is built first, of $all crates to be proved; where none is proved yet this takes a few minutes"
-    rm -rf "$program" "$root/target/stamp/$crate"
-    prove "$all" "$crate"
+    say "the $crate is built first, of $(closure "$crate" | wc -l) crates to be proved; where none is proved yet this takes a few minutes"
+    rm -f "$program" "$program.stamp"
+    prove "$crate"
     [[ -x $program ]] || fail "rt has built no $crate; what it said is in ${kept@Q}"
     record "$program" "$sources" || fail "nothing can be written in ${kept@Q}; make room, or give yourself the right to"
 }

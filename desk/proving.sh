@@ -7,20 +7,26 @@ source "$root/desk/machine.sh"
 
 kept="$root/target/desk"
 
-# Some crates and those of the repository that they stand on, a line for each, with the crates that it names.
+# Where rt lays a program that it has built.
+program_of() { # CRATE
+    printf '%s\n' "$root/crates/$1/out/$1"
+}
+
+# Some crates and those of the repository that they stand on, lowest first: the line of each in crates.txt.
 closure() {
     awk -v wanted="$*" '
         function visit(name,    below, count, i) {
             if (!(name in named) || seen[name]++) return
             count = split(named[name], below, " ")
             for (i = 1; i <= count; i++) visit(below[i])
-            print name ":" named[name]
+            print line[name]
         }
         { sub(/#.*/, "") }
         /:/ {
-            name = $0
-            gsub(/[ \t]|:.*/, "", name)
+            name = $1
+            sub(/:.*/, "", name)
             named[name] = substr($0, index($0, ":") + 1)
+            line[name] = $0
         }
         END {
             count = split(wanted, first, " ")
@@ -28,18 +34,23 @@ closure() {
         }' "$root/crates.txt"
 }
 
+# The names of crates, by their lines in crates.txt.
+named() {
+    awk '{ sub(/:.*/, "", $1); print $1 }'
+}
+
 hash_of() {
     sha256sum | cut -d ' ' -f 1
 }
 
-# The hash of all that is proved of some crates: their files, and the crates that each names. Must-fail edits are no part of it.
+# The hash of all that is proved of some crates: their files, and the crates that each names. Must-fail edits are no part of it, nor is what rt makes.
 sources_of() {
     local lines crates
     lines=$(closure "$@")
-    mapfile -t crates < <(cut -d : -f 1 <<<"$lines")
+    mapfile -t crates < <(named <<<"$lines")
     {
         printf '%s\n' "$lines"
-        (cd "$root/crates" && find "${crates[@]}" -name must-fail -prune -o -type f -exec sha256sum {} + | LC_ALL=C sort)
+        (cd "$root/crates" && find "${crates[@]}" \( -name must-fail -o -regex '[^/]*/out' \) -prune -o -type f -exec sha256sum {} + | LC_ALL=C sort)
     } | hash_of
 }
 
@@ -71,7 +82,7 @@ record() { # FILE SOURCES
     described "$1" "$2" >"$record.new" 2>/dev/null && mv "$record.new" "$record"
 }
 
-# Runs a function while no other command of the desk proves: two would write into one target/.
+# Runs a function while no other command of the desk proves: two would write into the same folders.
 alone() {
     mkdir -p "$kept" 2>/dev/null || true
     [[ -w $kept ]] || fail "nothing may be written in ${kept@Q}; give yourself the right to, or work in a copy of the repository"
@@ -80,16 +91,6 @@ alone() {
         flock -n 9 || { say "another command proves; this one waits for it" && flock 9; }
         "$@"
     ) 9>"$kept/lock"
-}
-
-# Tells of each crate that rt has proved now, and which it is of how many. Those that are unchanged are counted.
-count_proved() { # BEFORE ALL
-    local line count=$1 all=$2
-    while IFS= read -r line; do
-        [[ $line =~ ^rt:\ ([a-z0-9_]+)\ proved\ \((.*)\)$ ]] || continue
-        count=$((count + 1))
-        [[ ${BASH_REMATCH[2]} == unchanged* ]] || say "$count of $all proved (${BASH_REMATCH[1]}, ${BASH_REMATCH[2]})"
-    done
 }
 
 # Runs a command in a process group of its own, which ends with this one: what rt starts beside itself does not hear Ctrl-C.
@@ -104,12 +105,30 @@ grouped() {
     return "$status"
 }
 
-# Proves some crates and what they stand on, as a part of so many. What rt says is kept, and shown where it says that something is not proved.
-prove() { # ALL CRATES..
-    local all=$1 log=$kept/$command.log
-    shift
-    if ! (cd "$root" && grouped rt check "$@") </dev/null 2>&1 | tee "$log" | count_proved 0 "$all"; then
-        grep -E '^rt: .*(NOT PROVED|FAILED)' "$log" >&2 || true
-        fail "not all is proved, so nothing is built; what rt said is in ${log@Q}"
+# Has rt prove one crate, over those below it, and build it. It builds a program only to run it: here on no input, and what it prints goes nowhere.
+prove_one() { # CRATE
+    cd "$root/crates/$1" || return
+    if [[ -e src/main.rt ]]; then
+        rt run "$1" 2>&1 >/dev/null
+    else
+        rt lib "$1" 2>&1
     fi
+}
+
+# Proves some crates and what they stand on, and tells of each that rt has proved now, and which it is of how many. Of a library that is unchanged rt
+# says nothing: it is counted. What rt says is kept, and shown where it says that something is not proved.
+prove() { # CRATES..
+    local log=$kept/$command.log crates crate count=0 before began
+    mapfile -t crates < <(closure "$@" | named)
+    : >"$log"
+    for crate in "${crates[@]}"; do
+        before=$(wc -c <"$log")
+        began=$SECONDS
+        if ! (grouped prove_one "$crate") </dev/null >>"$log"; then
+            grep -E ': (not proved|no proof)|^rt: .*did not build' "$log" >&2 || true
+            fail "not all is proved, so nothing is built; what rt said is in ${log@Q}"
+        fi
+        count=$((count + 1))
+        [[ $(wc -c <"$log") -eq $before ]] || say "$count of ${#crates[@]} proved ($crate, $((SECONDS - began)) s)"
+    done
 }

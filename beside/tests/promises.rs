@@ -84,7 +84,8 @@ fn quoted(text: &str) -> impl Iterator<Item = &str> {
 /// The crates that a heading of the page speaks of.
 fn spoken_of(heading: &str) -> Names {
     let exported = heading == "The exported calls";
-    let meant = |name: &String| name == heading || (exported && name.ends_with("_calls"));
+    let is_exported = |name: &String| name.ends_with("_calls") || name == "ardhrumesh_c";
+    let meant = |name: &String| name == heading || (exported && is_exported(name));
     crates().into_iter().filter(meant).collect()
 }
 
@@ -208,15 +209,15 @@ fn each_group_of_rows_is_in_the_table() {
     };
     for text in &texts {
         let column = text
-            .split("abbrev pub column-of-")
+            .split("abbrev pub column_of_")
             .nth(1)
             .unwrap_or("")
             .to_string();
         for group in declared(text, "wrong-") {
             assert!(uses(&column, group), "{group} is in no column");
         }
-        for name in declared(text, "column-of-") {
-            let join = |other: &&String| other.contains("pub none-as-wrong") && uses(other, name);
+        for name in declared(text, "column_of_") {
+            let join = |other: &&String| other.contains("pub none_as_wrong") && uses(other, name);
             assert!(
                 texts.iter().any(|other| join(&other)),
                 "{name} is not joined"

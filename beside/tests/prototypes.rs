@@ -1,5 +1,5 @@
-//! The archive's object files carry no types. So the prototypes of `include/ardhrumesh.h` and the bindings of `src/archive.rs` are held to the
-//! heads of the exported calls here, and the header's refusals to the unit's numbers.
+//! The archive's object file carries no types. So the prototypes of `include/ardhrumesh.h` and the bindings of `src/archive.rs` are held to the
+//! heads of the exported calls here, these to the calls beneath them, promises and all, and the header's refusals to the unit's numbers.
 
 use std::collections::BTreeMap;
 use std::fs;
@@ -120,19 +120,48 @@ fn answer(behind: &str) -> String {
     word(kind.split_whitespace().next().unwrap_or(kind)).to_string()
 }
 
+const EXPORT: &str = "\n#[unsafe(no_mangle)]\npub extern \"C\" fn ";
+
+fn exports() -> String {
+    text_of("crates/ardhrumesh_c/src/lib.rt")
+}
+
 fn unit() -> Heads {
-    let mut heads = Heads::new();
-    for crate_name in ["stream_calls", "report_calls", "pixel_calls", "macro_calls"] {
-        let text = text_of(&format!("crates/{crate_name}/src/lib.rt"));
-        for head in heads_behind(&text, "pub extern \"C\" fn ", &['{']) {
+    let text = exports();
+    let heads = heads_behind(&text, EXPORT, &['{']);
+    heads
+        .into_iter()
+        .map(|head| {
             let before_promises = head.split("ensures").next().unwrap_or(head);
             let (name, parameters, behind) = cut(before_promises);
             let mut types: Types = parameters.iter().flat_map(|p| of_unit(p)).collect();
             types.push(answer(&behind));
-            heads.insert(name, types);
-        }
-    }
-    heads
+            (name, types)
+        })
+        .collect()
+}
+
+/// The heads of a text's calls with their promises, however they are laid out, in the order of the text.
+fn promised(text: &str, start: &str) -> Vec<String> {
+    text.split(start)
+        .skip(1)
+        .filter(|rest| rest.starts_with("ardh_"))
+        .map(|rest| rest.split("\n{").next().unwrap_or(rest))
+        .map(|head| {
+            head.split_whitespace()
+                .collect::<String>()
+                .replace(",)", ")")
+        })
+        .collect()
+}
+
+#[test]
+fn the_exported_calls_promise_what_those_beneath_promise() {
+    let libraries = ["stream_calls", "report_calls", "pixel_calls", "macro_calls"];
+    let text = libraries.map(|name| text_of(&format!("crates/{name}/src/lib.rt")));
+    let beneath = promised(&text.concat(), "\npub fn ");
+    assert_eq!(beneath.len(), 16);
+    assert_eq!(promised(&exports(), EXPORT), beneath);
 }
 
 fn header() -> Heads {

@@ -11,8 +11,7 @@ use expansion::Expansion;
 use macros::Place;
 
 // KD and KO
-#[unsafe(no_mangle)]
-pub extern "C" fn ardh_define(store: &mut [u8], number: i32, contents: &[i32]) -> u8
+pub fn ardh_define(store: &mut [u8], number: i32, contents: &[i32]) -> u8
     ensures value { result ≡ define_refusal three_bytes store.old number contents.now }
     ensures store_after { store.new ≡ store_after three_bytes store.old number contents.now }
 {
@@ -22,8 +21,7 @@ pub extern "C" fn ardh_define(store: &mut [u8], number: i32, contents: &[i32]) -
     }
 }
 
-#[unsafe(no_mangle)]
-pub extern "C" fn ardh_look_up<'a>(
+pub fn ardh_look_up<'a>(
     volatile: &'a [u8],
     saved: &'a [u8],
     number: i32,
@@ -48,8 +46,7 @@ pub extern "C" fn ardh_look_up<'a>(
     }
 }
 
-#[unsafe(no_mangle)]
-pub extern "C" fn ardh_expand<'a>(
+pub fn ardh_expand<'a>(
     volatile: &'a [u8],
     saved: &'a [u8],
     number: i32,

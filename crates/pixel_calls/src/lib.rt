@@ -108,8 +108,7 @@ fn of_drawing(drawing: Drawing) -> Handed
 
 // ---- setting the record
 
-#[unsafe(no_mangle)]
-pub extern "C" fn ardh_fresh(w: usize, h: usize, fields: &mut [usize; 7]) -> u8
+pub fn ardh_fresh(w: usize, h: usize, fields: &mut [usize; 7]) -> u8
     ensures { HandsSettled (make_fresh w h) result fields.new }
 {
     let setting = beam::fresh(w, h);
@@ -120,8 +119,7 @@ pub extern "C" fn ardh_fresh(w: usize, h: usize, fields: &mut [usize; 7]) -> u8
 }
 
 // RU
-#[unsafe(no_mangle)]
-pub extern "C" fn ardh_set_bits(
+pub fn ardh_set_bits(
     w: usize,
     h: usize,
     fields: &mut [usize; 7],
@@ -139,8 +137,7 @@ pub extern "C" fn ardh_set_bits(
 }
 
 // RS
-#[unsafe(no_mangle)]
-pub extern "C" fn ardh_set_viewport(
+pub fn ardh_set_viewport(
     w: usize,
     h: usize,
     fields: &mut [usize; 7],
@@ -161,8 +158,7 @@ pub extern "C" fn ardh_set_viewport(
 }
 
 // RH
-#[unsafe(no_mangle)]
-pub extern "C" fn ardh_set_beam(w: usize, h: usize, fields: &mut [usize; 7], x: i32, y: i32) -> u8
+pub fn ardh_set_beam(w: usize, h: usize, fields: &mut [usize; 7], x: i32, y: i32) -> u8
     ensures { HandsSettled (set_beam w h (beam_in fields.old) (point_given x y)) result fields.new }
 {
     let to = coordinates::point_given(x, y);
@@ -174,8 +170,7 @@ pub extern "C" fn ardh_set_beam(w: usize, h: usize, fields: &mut [usize; 7], x: 
 }
 
 // One step of the beam.
-#[unsafe(no_mangle)]
-pub extern "C" fn ardh_step(w: usize, h: usize, fields: &mut [usize; 7]) -> u8
+pub fn ardh_step(w: usize, h: usize, fields: &mut [usize; 7]) -> u8
     ensures { HandsSettled (make_step w h (beam_in fields.old)) result fields.new }
 {
     let setting = beam::step_on(w, h, beam_in(fields));
@@ -188,8 +183,7 @@ pub extern "C" fn ardh_step(w: usize, h: usize, fields: &mut [usize; 7]) -> u8
 // ---- the two writes
 
 // RP
-#[unsafe(no_mangle)]
-pub extern "C" fn ardh_draw_raster(
+pub fn ardh_draw_raster(
     surface: &mut [u8],
     w: usize,
     h: usize,
@@ -210,8 +204,7 @@ pub extern "C" fn ardh_draw_raster(
 }
 
 // RL
-#[unsafe(no_mangle)]
-pub extern "C" fn ardh_draw_runs(
+pub fn ardh_draw_runs(
     surface: &mut [u8],
     w: usize,
     h: usize,

@@ -11,8 +11,7 @@ use numbers::IntegerRead;
 use reports::StringRead;
 use wire::Written;
 
-#[unsafe(no_mangle)]
-pub extern "C" fn ardh_read_integer_report(
+pub fn ardh_read_integer_report(
     bytes: &[u8],
     start: usize,
     value: &mut i32,
@@ -35,8 +34,7 @@ pub extern "C" fn ardh_read_integer_report(
     }
 }
 
-#[unsafe(no_mangle)]
-pub extern "C" fn ardh_read_string_report(
+pub fn ardh_read_string_report(
     bytes: &[u8],
     start: usize,
     list: &mut [i32],
@@ -60,13 +58,7 @@ pub extern "C" fn ardh_read_string_report(
     }
 }
 
-#[unsafe(no_mangle)]
-pub extern "C" fn ardh_write_integer_report(
-    value: i32,
-    out: &mut [u8],
-    start: usize,
-    next: &mut usize,
-) -> u8
+pub fn ardh_write_integer_report(value: i32, out: &mut [u8], start: usize, next: &mut usize) -> u8
     ensures hands_writing { HandsWriting (write_report value (length out.old) start) result next.new }
     ensures out_after { out.new ≡ after_write (write_report value (length out.old) start) (spell_report value) out.old start }
 {
@@ -82,13 +74,7 @@ pub extern "C" fn ardh_write_integer_report(
     }
 }
 
-#[unsafe(no_mangle)]
-pub extern "C" fn ardh_write_string_report(
-    list: &[i32],
-    out: &mut [u8],
-    start: usize,
-    next: &mut usize,
-) -> u8
+pub fn ardh_write_string_report(list: &[i32], out: &mut [u8], start: usize, next: &mut usize) -> u8
     ensures hands_writing { HandsWriting (write_string list.now (length out.old) start) result next.new }
     ensures out_after { out.new ≡ after_write (write_string list.now (length out.old) start) (spell_string list.now) out.old start }
 {

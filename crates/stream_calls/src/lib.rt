@@ -53,8 +53,7 @@ fn four_of(parameters: Parameters) -> [i32; 4]
 }
 
 // Only a command that was read changes what is remembered.
-#[unsafe(no_mangle)]
-pub extern "C" fn ardh_next_item(
+pub fn ardh_next_item(
     bytes: &[u8],
     start: usize,
     remembered: &mut [u16; 3],
@@ -222,8 +221,7 @@ fn write_given(
 }
 
 // Only a command that was written changes what is remembered.
-#[unsafe(no_mangle)]
-pub extern "C" fn ardh_write_command(
+pub fn ardh_write_command(
     first: u8,
     second: u8,
     values: &[i32; 4],
