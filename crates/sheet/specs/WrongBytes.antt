@@ -1,11 +1,9 @@
 -- Wrong answers of `refusals`, `memory`, `wire`, `ranges` and `characters`. Each row: a call, its input, and what it must not answer.
 use Rattle.std.specs.Prelude.{ℕ, ◌+◌, List, [], ◌∷◌, length, ℤ, pos, negsuc}
 use Rattle.std.proofs.lemmas.List.Edits.{sets}
-use Rattle.refusals.specs.declared.Refusal.{Refusal}
 use Rattle.refusals.specs.declared.Refusal.TheVariants.{IntegerOutside, TooShort}
 use Rattle.refusals.specs.Refusals.{number_of}
 use Rattle.refusals.specs.Answers.{every}
-use Rattle.memory.specs.declared.Point.{Point}
 use Rattle.memory.specs.declared.DelMode.TheVariants.{Data, Filler}
 use Rattle.memory.specs.declared.Remembered.{Remembered}
 use Rattle.memory.specs.Memory.{fresh_memory, inside, remember, in_mode}

@@ -1,5 +1,5 @@
 -- Wrong answers of `stream`, `lines` and `listing`, and of the stream's exported calls. Each row: a call, its input, and what it must not answer.
-use Rattle.std.specs.Prelude.{ℕ, Bool, true, false, List, [], ◌∷◌, ◌++◌, length, replicate, ℤ, pos, negsuc}
+use Rattle.std.specs.Prelude.{ℕ, true, false, List, [], ◌∷◌, ◌++◌, length, replicate, ℤ, pos, negsuc}
 use Rattle.refusals.specs.Answers.{Answer, number, value_or}
 use Rattle.memory.specs.declared.Remembered.{Remembered}
 use Rattle.memory.specs.Memory.{fresh_memory}

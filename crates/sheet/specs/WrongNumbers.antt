@@ -1,7 +1,7 @@
 -- Wrong answers of `signs`, `numbers`, `spelling`, `points` and `coordinates`. Each row: a call, its input, and what it must not answer.
 use Rattle.std.specs.Prelude.{ℕ, true, false, ◌&&◌, List, [], ◌∷◌, length, leb, ℤ, pos, negsuc, nat_abs}
 use Rattle.std.proofs.lemmas.List.Edits.{sets}
-use Rattle.refusals.specs.Answers.{Answer, done, refused, Read}
+use Rattle.refusals.specs.Answers.{done, refused}
 use Rattle.memory.specs.declared.Point.{Point}
 use Rattle.memory.specs.declared.Remembered.{Remembered}
 use Rattle.memory.specs.Memory.{fresh_memory, inside}

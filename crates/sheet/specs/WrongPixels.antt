@@ -3,12 +3,11 @@
 use Rattle.std.specs.Prelude.{ℕ, List, [], ◌∷◌, ◌++◌, length, ℤ, pos, negsuc}
 use Rattle.memory.specs.declared.Point.{Point}
 use Rattle.coordinates.specs.Coordinates.{point_given}
-use Rattle.beam.specs.declared.Beam.{Beam}
 use Rattle.beam.specs.Validity.{is_size, is_valid}
 use Rattle.beam.specs.Settings.{Settled, make_fresh, set_bits, set_viewport, set_beam, stepped, make_step}
 use Rattle.pixel_refusals.specs.Tests.{raster_refusal, run_refusal}
 use Rattle.pixels.specs.Writes.{WriteOutcome, draw_raster, raster_surface, draw_runs, runs_surface}
-use Rattle.balance.specs.Balance.{Call, raster, runs, bits, State, returned, ran}
+use Rattle.balance.specs.Balance.{Call, raster, runs, State, returned, ran}
 use Rattle.pixel_calls.specs.Fields.{beam_in, fields_of}
 use Rattle.sheet.specs.Rows.{Wrong, but, joined, truth, at}
 
