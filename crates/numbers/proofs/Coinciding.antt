@@ -5,9 +5,7 @@ use lib.IntN.{ℤ}
 use Rattle.refusals.specs.Answers.{Answer, done, refused, Read}
 use Rattle.refusals.proofs.Coinciding.{named, named_back, coincide}
 use Rattle.numbers.specs.declared.IntegerRead.{IntegerRead}
-use Rattle.numbers.specs.declared.IntegerRead.TheVariants as IntegerRead
 use Rattle.numbers.specs.declared.CountRead.{CountRead}
-use Rattle.numbers.specs.declared.CountRead.TheVariants as CountRead
 use Rattle.numbers.specs.Integers.{integer_of}
 use Rattle.numbers.specs.Counts.{count_of}
 

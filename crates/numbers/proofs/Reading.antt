@@ -1,6 +1,6 @@
 -- One step of reading an integer or a count, as the code takes it: what the callee gave, and what stands for the rest.
 use Prim.Native.Nat.{ℕ, zero, suc, ◌+◌, ◌*◌, ◌%◌, ◌≤◌, ◌<◌}
-use mathlib.Core.Path.{◌≡◌, refl, sym, ◌∙◌, ap}
+use mathlib.Core.Path.{◌≡◌, sym, ◌∙◌, ap}
 use mathlib.Core.Bool.{Bool, true, false}
 use mathlib.Core.List.{List}
 use native.Mathlib.Omega.{arith}
@@ -15,12 +15,10 @@ use Rattle.refusals.specs.declared.Refusal.{Refusal}
 use Rattle.refusals.specs.declared.Refusal.TheVariants.{IntegerOutside, CountOutside}
 use Rattle.refusals.specs.Answers.{Answer, Read, done, refused}
 use Rattle.wire.specs.declared.ByteRead.{ByteRead}
-use Rattle.wire.specs.declared.ByteRead.TheVariants as ByteRead
 use Rattle.wire.specs.declared.TakenByte.{TakenByte}
 use Rattle.wire.specs.Taking.{byte_at, byte_of}
 use Rattle.wire.proofs.Feeds.{byte_given, none_given}
 use Rattle.numbers.specs.declared.IntegerRead.{IntegerRead}
-use Rattle.numbers.specs.declared.IntegerRead.TheVariants as IntegerRead
 use Rattle.numbers.specs.declared.TakenInteger.{TakenInteger}
 use Rattle.numbers.specs.declared.CountRead.TheVariants as CountRead
 use Rattle.signs.specs.Signs.{signed_of, is_negative, most_magnitude}

@@ -9,7 +9,7 @@ use lib.Dec.{ltb, leb}
 use lib.ListN.{length, length-append}
 use lib.IntN.{ℤ, pos, negsuc, nat_abs}
 use Rattle.memory.specs.declared.Remembered.{Remembered}
-use Rattle.refusals.specs.Answers.{Answer, done, refused, Read}
+use Rattle.refusals.specs.Answers.{Answer, done, Read}
 use Rattle.refusals.proofs.Cases.{by_pick, by_then, Done, done-of, is-done, not_done, zero_one}
 use Rattle.wire.specs.Taking.{byte_at}
 use Rattle.wire.specs.Sending.{sent}

@@ -1,6 +1,6 @@
 -- "Integer. Up to two high bytes 64..127, six bits each, then a low byte 32..63: four bits of magnitude, and 16 added when the
 -- number is not negative. Range -32768..32767. Minus nought reads as 0. Leading high bytes of value 0 are accepted and never written."
-use Rattle.std.specs.Prelude.{ℕ, suc, zero, ◌+◌, ◌*◌, ◌/◌, ◌%◌, List, [], ◌∷◌, ◌++◌, Bool, true, false, ltb, leb, eqb, ℤ, pos, negsuc, neg_ℤ, nat_abs}
+use Rattle.std.specs.Prelude.{ℕ, suc, zero, ◌+◌, ◌*◌, ◌/◌, ◌%◌, List, [], ◌∷◌, ◌++◌, Bool, true, false, ltb, leb, eqb, ℤ, nat_abs}
 use Rattle.memory.specs.declared.Remembered.{Remembered}
 use Rattle.refusals.specs.Refusals.{number_of}
 use Rattle.refusals.specs.Answers.{Answer, done, refused, Read, then, pick}

@@ -8,7 +8,7 @@ use lib.Dec.{ltb}
 use lib.ListN.{length}
 use Rattle.memory.specs.declared.Point.{Point}
 use Rattle.memory.specs.declared.Remembered.{Remembered}
-use Rattle.refusals.specs.Answers.{Answer, done, refused, Read}
+use Rattle.refusals.specs.Answers.{Answer, done, Read}
 use Rattle.refusals.proofs.Cases.{by_pick, by_then, Done, not_done}
 use Rattle.wire.specs.Taking.{byte_at}
 use Rattle.wire.specs.Sending.{sent}

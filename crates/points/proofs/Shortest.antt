@@ -2,26 +2,26 @@
 use Prim.Native.Nat.{ℕ, ◌+◌, ◌*◌, ◌/◌, ◌%◌, ◌≤◌, ◌<◌}
 use mathlib.Core.Path.{◌≡◌, refl, sym, ◌∙◌, ap}
 use mathlib.Core.Bool.{Bool, true, false, ◌&&◌}
-use mathlib.Core.List.{List, [], ◌∷◌, ◌++◌, append_assoc}
+use mathlib.Core.List.{List, [], ◌∷◌, ◌++◌}
 use native.Mathlib.Omega.{arith}
 use borrow.Author.Tests.{le-leb, eq-eqb}
-use lib.Dec.{eqb, leb}
+use lib.Dec.{eqb}
 use lib.ListN.{length, length-append}
 use Rattle.memory.specs.declared.Point.{Point}
 use Rattle.memory.specs.declared.Remembered.{Remembered}
 use Rattle.memory.specs.Memory.{inside}
-use Rattle.refusals.specs.Answers.{Answer, done, refused, Read}
+use Rattle.refusals.specs.Answers.{Answer, done, Read}
 use Rattle.refusals.proofs.Cases.{by_pick, Done, done-of, is-done, not_done, bool_apart}
 use Rattle.wire.specs.Sending.{sent}
 use Rattle.wire.proofs.Sendings.{sent-append}
 use Rattle.wire.proofs.Feeds.{Took, one-most, one-least, one-cheap}
 use Rattle.points.specs.declared.PointBytes.{PointBytes}
 use Rattle.points.specs.Layout.{Inside, bytes_of, coordinates}
-use Rattle.points.specs.Reading.{by_kind, not_allowed, with_hi_y, with_extra, with_lo_y, with_hi_x, with_lo_x, ends_at, lo_x, last_at, after_lo_y, after_upper, after_hi_y, point_from, point_at}
+use Rattle.points.specs.Reading.{not_allowed, with_hi_y, with_extra, with_lo_y, with_hi_x, with_lo_x, ends_at, lo_x, last_at, after_lo_y, after_upper, after_hi_y, point_from, point_at}
 use Rattle.points.specs.Writing.{part, spell_bytes, spell_point}
 use Rattle.points.proofs.Stepping.{insides}
 use Rattle.points.proofs.ByKind.{by-kind}
-use Rattle.points.proofs.RoundTrip.{From, Kinds, kinds_of, regroup}
+use Rattle.points.proofs.RoundTrip.{Kinds, kinds_of, regroup}
 
 -- ---- what a spelling costs at most
 

@@ -14,7 +14,6 @@ use Rattle.refusals.specs.declared.Refusal.TheVariants.{ByteNotAllowed, NotValid
 use Rattle.refusals.specs.Answers.{Answer, Read, refused}
 use Rattle.refusals.proofs.Cases.{and_left, and_right}
 use Rattle.wire.specs.declared.ByteRead.{ByteRead}
-use Rattle.wire.specs.declared.ByteRead.TheVariants as ByteRead
 use Rattle.wire.specs.declared.TakenByte.{TakenByte}
 use Rattle.wire.specs.Taking.{byte_at, byte_of}
 use Rattle.points.specs.declared.PointRead.TheVariants as PointRead

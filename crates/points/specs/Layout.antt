@@ -1,6 +1,6 @@
 -- "Point. x and y 0..4095. Bytes in order: HiY = 32 + y/128; Extra = 96 + 4(y mod 4) + (x mod 4); LoY = 96 + (y/4 mod 32);
 -- HiX = 32 + x/128; LoX = 64 + (x/4 mod 32); divisions drop the remainder."
-use Rattle.std.specs.Prelude.{ℕ, ◌+◌, ◌*◌, ◌/◌, ◌%◌, ◌≤◌}
+use Rattle.std.specs.Prelude.{◌+◌, ◌*◌, ◌/◌, ◌%◌, ◌≤◌}
 use Rattle.memory.specs.declared.Point.{Point}
 use Rattle.points.specs.declared.PointBytes.{PointBytes}
 

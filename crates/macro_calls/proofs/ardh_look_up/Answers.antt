@@ -4,10 +4,10 @@ use borrow.Author.Rules.{rules}
 use Rattle.macro_calls.proofs.ardh_look_up.Goals as goal
 
 pub returns-in-InVolatile : goal.returns-in-InVolatile
-returns-in-InVolatile c = record { value = opened (search (closed, rules, volatile_number)); place_after = opened (search (closed, rules, volatile_fields)); }
+returns-in-InVolatile c = record { value = opened (search (closed, rules, volatile_number)); place_after = opened (search (closed, rules, volatile_fields)) }
 
 pub returns-in-InSaved : goal.returns-in-InSaved
-returns-in-InSaved c = record { value = opened (search (closed, rules, saved_number)); place_after = opened (search (closed, rules, saved_fields)); }
+returns-in-InSaved c = record { value = opened (search (closed, rules, saved_number)); place_after = opened (search (closed, rules, saved_fields)) }
 
 pub returns-in-Refused : goal.returns-in-Refused
-returns-in-Refused c = record { value = opened (search (closed, rules, unplaced-number)); place_after = opened (search (closed, rules, unplaced-fields)); }
+returns-in-Refused c = record { value = opened (search (closed, rules, unplaced-number)); place_after = opened (search (closed, rules, unplaced-fields)) }

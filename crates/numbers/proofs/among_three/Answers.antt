@@ -1,5 +1,3 @@
-use Prim.Native.Nat.{◌+◌, ◌≤◌}
-use lib.ListN.{length}
 use Rattle.numbers.proofs.Ahead.{room-ahead, aheads, few-highs, value-small}
 use borrow.Author.Rules.{rules}
 use Rattle.numbers.proofs.among_three.Goals as goal

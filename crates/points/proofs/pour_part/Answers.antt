@@ -10,4 +10,4 @@ overflow_add-result c = search (rules, put-fits)
 
 pub returns : goal.returns
 returns c =
-    record { value = (search (rules, put-size), search (rules, put-few)); out_after = search (rules, put-stands); }
+    record { value = (search (rules, put-size), search (rules, put-few)); out_after = search (rules, put-stands) }

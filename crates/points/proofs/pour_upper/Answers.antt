@@ -3,4 +3,4 @@ use borrow.Author.Rules.{rules}
 use Rattle.points.proofs.pour_upper.Goals as goal
 
 pub returns : goal.returns
-returns c = record { value = (search (rules, upper_size), search rules); out_after = search (rules, upper_stands); }
+returns c = record { value = (search (rules, upper_size), search rules); out_after = search (rules, upper_stands) }

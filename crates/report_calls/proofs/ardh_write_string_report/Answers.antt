@@ -4,7 +4,7 @@ use borrow.Author.Rules.{rules}
 use Rattle.report_calls.proofs.ardh_write_string_report.Goals as goal
 
 pub returns-in-Next : goal.returns-in-Next
-returns-in-Next c = record { hands_writing = opened (search (closed, rules, written-done, written_next)); out_after = opened (search (closed, rules, written_out)); }
+returns-in-Next c = record { hands_writing = opened (search (closed, rules, written-done, written_next)); out_after = opened (search (closed, rules, written_out)) }
 
 pub returns-in-Refused : goal.returns-in-Refused
-returns-in-Refused c = record { hands_writing = opened (search (closed, rules, written-refused, written_none)); out_after = opened (search (closed, rules, written_out)); }
+returns-in-Refused c = record { hands_writing = opened (search (closed, rules, written-refused, written_none)); out_after = opened (search (closed, rules, written_out)) }
