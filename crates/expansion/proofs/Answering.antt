@@ -1,13 +1,13 @@
 -- The whole call, by what the run that only looks has found.
-use Prim.Native.Nat.{ℕ, ◌+◌, ◌*◌, ◌^◌, ◌≤◌, ◌<◌}
+use Prim.Native.Nat.{ℕ, ◌+◌, ◌≤◌, ◌<◌}
 use mathlib.Core.Path.{◌≡◌, refl, sym, ◌∙◌, ap}
 use mathlib.Core.Bool.{Bool, true, false, ◌&&◌}
-use mathlib.Core.List.{List, [], ◌++◌}
+use mathlib.Core.List.{List}
 use native.Mathlib.Omega.{arith}
-use borrow.Author.Tests.{eq-eqb, lt-leb, le-leb}
-use lib.Dec.{eqb, leb}
-use lib.ListN.{length, take, drop}
-use lib.Seq.{sets, sets-eq}
+use borrow.Author.Tests.{lt-leb, le-leb}
+use lib.Dec.{leb}
+use lib.ListN.{length}
+use lib.Seq.{sets-eq}
 use lib.IntN.{ℤ, nat_abs}
 use mir.Syntax.{w32}
 use mir.Val.{SFits, to_z, of_z}
@@ -21,12 +21,10 @@ use Rattle.refusals.specs.Answers.{Answer, demand}
 use Rattle.refusals.proofs.Cases.{and_left, and_right}
 use Rattle.refusals.proofs.Numbers.{not_nought, met}
 use Rattle.macros.specs.declared.Finding.{Finding}
-use Rattle.macros.specs.declared.Finding.TheVariants as Finding
 use Rattle.macros.specs.Store.{three_bytes, well_formed, is_macro_number, body_in_either, look_refusal, find_refusal, finding_of}
 use Rattle.expansion.specs.declared.Expanded.{Expanded}
 use Rattle.expansion.specs.declared.Going.{Going}
 use Rattle.expansion.specs.declared.Step.{Step}
-use Rattle.expansion.specs.declared.Step.TheVariants as Step
 use Rattle.expansion.specs.declared.Expansion.TheVariants as Expansion
 use Rattle.expansion.specs.Expansion.{Stretch, call_stretch, started, step_of, reached_by, expansion_of, told_of, out_of, room_refusal, room_told, room_out, start_refusal, expand_refusal, expand_told, expand_out}
 use Rattle.expansion.specs.Running.{BothFormed, Ran}

@@ -1,13 +1,12 @@
 -- A body that is looked up is not longer than the store's layout allows.
 use Prim.Native.Nat.{ℕ, zero, suc, ◌+◌, ◌≤◌}
-use mathlib.Core.Path.{◌≡◌, refl, subst}
 use mathlib.Core.List.{List, [], ◌∷◌}
 use native.Mathlib.Omega.{arith}
 use lib.Dec.{eqb}
 use lib.ListN.{length, drop}
 use lib.IntN.{ℤ, nat_abs}
 use Rattle.refusals.proofs.Cases.{by_pick}
-use Rattle.macros.specs.Store.{Entry, Layout, three_bytes, body_in, is_store_entry, front_entries, entries, body_of, or_else, body_in_either, find_refusal, looked_up}
+use Rattle.macros.specs.Store.{Entry, Layout, three_bytes, is_store_entry, front_entries, entries, body_of, or_else, body_in_either, find_refusal, looked_up}
 use Rattle.macros.proofs.Reading.{stands, body-long}
 
 module _ (L : Layout) where

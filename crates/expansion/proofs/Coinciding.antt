@@ -4,7 +4,6 @@ use Rattle.refusals.specs.Answers.{Answer, done, refused}
 use Rattle.refusals.proofs.Coinciding.{named, named_back, coincide}
 use Rattle.expansion.specs.declared.Expanded.{Expanded}
 use Rattle.expansion.specs.declared.Expansion.{Expansion}
-use Rattle.expansion.specs.declared.Expansion.TheVariants as Expansion
 use Rattle.expansion.specs.Expansion.{expansion_of}
 
 expansion_back : Answer Expanded → Expansion

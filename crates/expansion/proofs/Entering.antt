@@ -1,5 +1,5 @@
 -- Entering a macro, by the tests in the paper's order.
-use Prim.Native.Nat.{ℕ, zero, suc, ◌+◌, ◌-◌, ◌*◌, ◌^◌, ◌≤◌, ◌<◌}
+use Prim.Native.Nat.{ℕ, zero, suc, ◌+◌, ◌-◌, ◌≤◌, ◌<◌}
 use mathlib.Core.Path.{◌≡◌, refl, sym, ◌∙◌, ap, subst}
 use mathlib.Core.Bool.{Bool, true, false}
 use mathlib.Core.List.{List, []}
@@ -13,7 +13,6 @@ use mir.Val.{SFits, to_z, of_z}
 use mir.Facts.{to_z-of_z}
 use Rattle.memory.specs.declared.Remembered.{Remembered}
 use Rattle.refusals.specs.declared.Refusal.TheVariants.{NotValid, TooDeep, TooManyMacros}
-use Rattle.refusals.specs.Answers.{pick}
 use Rattle.signs.specs.Signs.{is_negative}
 use Rattle.macros.specs.Store.{three_bytes, looked_up, looked_by_headers}
 use Rattle.macros.proofs.Layouts.{three-lawful}
@@ -21,7 +20,6 @@ use Rattle.macros.proofs.Headers.{headers_look}
 use Rattle.expansion.proofs.Bodies.{looked_up-short}
 use Rattle.expansion.specs.declared.Going.{Going}
 use Rattle.expansion.specs.declared.Step.{Step}
-use Rattle.expansion.specs.declared.Step.TheVariants as Step
 use Rattle.expansion.specs.Expansion.{Stretch, gives, stops, opened, entering, call_stretch, body_stretch}
 use Rattle.expansion.specs.Running.{BothFormed, Roomy, Ran}
 use Rattle.expansion.proofs.Walking.{ran-none, ran-stops}

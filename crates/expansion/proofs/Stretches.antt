@@ -1,8 +1,7 @@
 -- Laws of an expansion: the fuel never runs out, at most 1,024 macros are entered, and each of them pays for its body.
 use Prim.Native.Nat.{ℕ, zero, suc, ◌+◌, ◌-◌, ◌*◌, ◌≤◌, ◌<◌}
-use mathlib.Core.Path.{◌≡◌, refl, sym, ◌∙◌, ap, subst}
-use mathlib.Core.Bool.{Bool, true, false}
-use mathlib.Core.List.{List, [], ◌∷◌, ◌++◌, append_assoc}
+use mathlib.Core.Path.{◌≡◌, refl, sym, ap}
+use mathlib.Core.List.{List, [], ◌++◌, append_assoc}
 use native.Mathlib.Numerals.{add-one}
 use native.Mathlib.Omega.{arith}
 use borrow.Author.Tests.{ltb-true}
@@ -19,7 +18,7 @@ use Rattle.expansion.proofs.Bodies.{looked_up-short}
 use Rattle.pieces.specs.Pieces.{Pieced, piece_at}
 use Rattle.pieces.specs.Pieces as Pieces
 use Rattle.pieces.proofs.Within.{copied-onward, called-onward}
-use Rattle.expansion.specs.Expansion.{Stretch, gives, stops, front, and_then, item_bytes, on_piece, walked, whole_body, opened, entering, call_stretch, started}
+use Rattle.expansion.specs.Expansion.{Stretch, gives, stops, front, and_then, item_bytes, on_piece, walked, opened, entering, call_stretch, started}
 
 -- ---- joining stretches
 

@@ -1,10 +1,9 @@
 -- The walker's loop: what it has given, and what is left of the body, are the whole body's stretch.
-use Prim.Native.Nat.{ℕ, suc, ◌+◌, ◌-◌, ◌*◌, ◌^◌, ◌≤◌, ◌<◌}
+use Prim.Native.Nat.{ℕ, ◌+◌, ◌-◌, ◌*◌, ◌^◌, ◌≤◌, ◌<◌}
 use mathlib.Core.Path.{◌≡◌, refl, sym, ◌∙◌, ap, subst}
 use mathlib.Core.Bool.{Bool, true, false}
-use mathlib.Core.List.{List, [], ◌∷◌, ◌++◌, append-nil}
+use mathlib.Core.List.{List, [], ◌++◌}
 use native.Mathlib.Omega.{arith}
-use borrow.Author.Tests.{eqb-true, eqb-false, eq-eqb, ne_eqb}
 use lib.Dec.{eqb}
 use lib.ListN.{length, length-append}
 use lib.Seq.{sets, length-sets}
@@ -20,15 +19,13 @@ use Rattle.refusals.specs.Answers.{pick}
 use Rattle.refusals.proofs.Numbers.{not_nought}
 use Rattle.refusals.proofs.Many.{sets_append}
 use Rattle.pieces.specs.declared.Piece.{Piece}
-use Rattle.pieces.specs.declared.Piece.TheVariants as Piece
 use Rattle.pieces.specs.Pieces.{piece_at, piece_of}
 use Rattle.pieces.proofs.Within.{copied-onward, called-onward}
 use Rattle.expansion.specs.declared.Going.{Going}
 use Rattle.expansion.specs.declared.Step.{Step}
-use Rattle.expansion.specs.declared.Step.TheVariants as Step
-use Rattle.expansion.specs.Expansion.{Stretch, gives, stops, front, and_then, item_bytes, on_piece, walked, call_stretch, body_stretch, Reached, on, refused, step_of, reached_by}
+use Rattle.expansion.specs.Expansion.{Stretch, gives, stops, front, and_then, item_bytes, on_piece, walked, call_stretch, body_stretch, on, refused, step_of, reached_by}
 use Rattle.expansion.specs.Running.{Roomy, Ran}
-use Rattle.expansion.proofs.Stretches.{front-front, item-long, walked_step, fuel_enough, Small, call_small}
+use Rattle.expansion.proofs.Stretches.{front-front, item-long, walked_step, fuel_enough, call_small}
 
 -- ---- what an answer says of a stretch
 

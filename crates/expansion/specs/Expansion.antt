@@ -1,5 +1,5 @@
 -- "Expanding copies a body's items, with each KX replaced by the expansion of the macro that it names."
-use Rattle.std.specs.Prelude.{ℕ, zero, suc, ◌+◌, ◌-◌, ◌&&◌, List, [], ◌∷◌, ◌++◌, length, take, drop, eqb, leb, ltb, ℤ}
+use Rattle.std.specs.Prelude.{ℕ, zero, suc, ◌+◌, ◌-◌, ◌&&◌, List, [], ◌++◌, length, take, drop, eqb, leb, ltb, ℤ}
 use Rattle.memory.specs.declared.Remembered.{Remembered}
 use Rattle.memory.specs.Memory.{inside}
 use Rattle.signs.specs.Signs.{is_negative}
@@ -9,11 +9,9 @@ use Rattle.refusals.specs.Answers as Answers
 use Rattle.macros.specs.Store.{three_bytes, well_formed, looked_up, find_refusal}
 use Rattle.pieces.specs.Pieces.{Pieced, end, copied, called, trouble, piece_at}
 use Rattle.expansion.specs.declared.Expansion.{Expansion}
-use Rattle.expansion.specs.declared.Expansion.TheVariants as Expansion
 use Rattle.expansion.specs.declared.Expanded.{Expanded}
 use Rattle.expansion.specs.declared.Going.{Going}
 use Rattle.expansion.specs.declared.Step.{Step}
-use Rattle.expansion.specs.declared.Step.TheVariants as Step
 
 -- ---- a stretch of an expansion: its bytes, the macros entered in all, what is then remembered, and the first trouble's number, or 0
 

@@ -8,13 +8,11 @@ use mir.Val.{SFits, to_z, of_z}
 use mir.Facts.{to_z-of_z}
 use Rattle.refusals.specs.declared.Refusal.{Refusal}
 use Rattle.refusals.specs.Refusals.{number_of}
-use Rattle.refusals.specs.Answers.{Answer, done, refused, Read, number, value_or, place_of}
+use Rattle.refusals.specs.Answers.{Answer, Read, number, value_or, place_of}
 use Rattle.numbers.specs.declared.IntegerRead.{IntegerRead}
-use Rattle.numbers.specs.declared.IntegerRead.TheVariants as IntegerRead
 use Rattle.numbers.specs.declared.TakenInteger.{TakenInteger}
 use Rattle.numbers.specs.Integers.{integer_of}
 use Rattle.reports.specs.declared.StringRead.{StringRead}
-use Rattle.reports.specs.declared.StringRead.TheVariants as StringRead
 use Rattle.reports.specs.declared.TakenString.{TakenString}
 use Rattle.reports.specs.Reading.{string_of, after_string}
 use Rattle.reports.specs.Writing.{spell_report, write_report}

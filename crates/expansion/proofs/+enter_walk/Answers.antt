@@ -1,6 +1,6 @@
 use Rattle.std.proofs.Common.{rules}
 use Rattle.refusals.proofs.Shut.{opened, closed}
-use Rattle.expansion.proofs.Walking.{walking_none, same-long, same-ran, walked_end, piece-refused, walked-refused, copied-from, copied-to, copied-less, copied-counts, walking_copied, called-less, called-roomy, walking_called}
+use Rattle.expansion.proofs.Walking.{walking_none, walked_end, piece-refused, walked-refused, copied-from, copied-to, copied-less, copied-counts, walking_copied, called-less, called-roomy, walking_called}
 use Rattle.expansion.proofs.Entering.{enter_negative, enter_deep, enter_absent, enter_full, enter_roomy, enter_in}
 use Rattle.expansion.proofs.+enter_walk.Goals as goal
 

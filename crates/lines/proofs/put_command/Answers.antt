@@ -1,5 +1,4 @@
 use Rattle.lines.proofs.Lined.{command-poured}
-use borrow.Author.Rules.{rules}
 use Rattle.lines.proofs.put_command.Goals as goal
 
 pub returns : goal.returns

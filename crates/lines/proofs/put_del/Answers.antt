@@ -1,5 +1,4 @@
 use Rattle.lines.proofs.Lined.{del-poured}
-use borrow.Author.Rules.{rules}
 use Rattle.lines.proofs.put_del.Goals as goal
 
 pub returns : goal.returns

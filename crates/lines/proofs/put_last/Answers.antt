@@ -1,5 +1,4 @@
 use Rattle.lines.proofs.Lined.{last-poured}
-use borrow.Author.Rules.{rules}
 use Rattle.lines.proofs.put_last.Goals as goal
 
 pub returns : goal.returns

@@ -1,7 +1,5 @@
 use borrow.Author.Rules.{rules}
-use Prim.Native.Nat.{◌-◌}
-use lib.ListN.{length}
-use Rattle.lines.proofs.Digits.{Pouring, many}
+use Rattle.lines.proofs.Digits.{many}
 use Rattle.lines.proofs.put_numbers.Goals as goal
 
 pub loop-i-init : goal.loop-i-init

@@ -1,7 +1,6 @@
-use borrow.Author.Rules.{rules}
 use Prim.Native.Nat.{◌-◌}
 use lib.ListN.{length}
-use Rattle.lines.proofs.Digits.{Pouring, many}
+use Rattle.lines.proofs.Digits.{Pouring}
 use Rattle.lines.proofs.put_numbers.Given as goal
 
 abbrev pub invariant-loop-i : goal.invariant-loop-i

@@ -1,5 +1,4 @@
 use Rattle.lines.proofs.Lined.{opening-poured}
-use borrow.Author.Rules.{rules}
 use Rattle.lines.proofs.put_opening.Goals as goal
 
 pub returns : goal.returns

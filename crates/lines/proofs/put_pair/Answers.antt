@@ -1,5 +1,4 @@
 use Rattle.lines.proofs.Lined.{pair-poured}
-use borrow.Author.Rules.{rules}
 use Rattle.lines.proofs.put_pair.Goals as goal
 
 pub returns : goal.returns

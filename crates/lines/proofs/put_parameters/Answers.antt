@@ -1,5 +1,4 @@
 use Rattle.lines.proofs.Lined.{parameters_poured}
-use borrow.Author.Rules.{rules}
 use Rattle.lines.proofs.put_parameters.Goals as goal
 
 pub returns : goal.returns

@@ -1,5 +1,4 @@
 use Rattle.lines.proofs.Lined.{refused-poured}
-use borrow.Author.Rules.{rules}
 use Rattle.lines.proofs.put_refused.Goals as goal
 
 pub returns : goal.returns

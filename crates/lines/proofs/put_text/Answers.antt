@@ -1,5 +1,4 @@
 use Rattle.lines.proofs.Lined.{text-poured}
-use borrow.Author.Rules.{rules}
 use Rattle.lines.proofs.put_text.Goals as goal
 
 pub returns : goal.returns
