@@ -1,8 +1,12 @@
 // The part that a look up hands back, and what its companion says: no exported call hands back a part (docs/VECTORS.md).
 #![tactic(auto)]
 
-use libc::STDOUT_FILENO;
+ghost use Rattle.std.specs.Prelude.{OnOk};
+ghost use Rattle.std.specs.Io.KnownBytes.{Appends};
+
 use macros::Finding;
+use std::io;
+use std::io::Write;
 
 // Macro 5 as the sheet has it, macro 300 of one byte, and room.
 const VOLATILE: [u8; 12] = [0, 10, 2, 72, 105, 2, 88, 1, 65, 0, 0, 0];
@@ -13,32 +17,35 @@ const SAVED: [u8; 14] = [0, 10, 1, 66, 0, 14, 3, 1, 2, 3, 255, 254, 1, 127];
 // An entry that its store ends in.
 const MALFORMED: [u8; 4] = [0, 10, 2, 72];
 
-fn text(s: &[u8]) {
-    io::write_all(STDOUT_FILENO, s);
+fn text<W: Write>(writer: &mut W, s: &[u8]) -> io::Result<()>
+    ensures { OnOk result (Appends (W.contents writer.old) (W.contents writer.new) s.now) }
+{
+    writer.write_all(s)
 }
 
-fn decimal(n: u32) {
-    io::print_decimal(STDOUT_FILENO, n as u64);
+fn decimal<W: Write>(writer: &mut W, n: u32) -> io::Result<()> {
+    write!(writer, "{n}")
 }
 
-fn signed(v: i32) {
+fn signed<W: Write>(writer: &mut W, v: i32) -> io::Result<()> {
     if signs::is_negative(v) {
-        text(b"-");
+        text(writer, b"-")?;
     }
-    decimal(signs::magnitude(v));
+    decimal(writer, signs::magnitude(v))
 }
 
-fn byte(b: u8) {
-    text(b" ");
-    decimal(b as u32);
+fn byte<W: Write>(writer: &mut W, b: u8) -> io::Result<()> {
+    text(writer, b" ")?;
+    decimal(writer, b as u32)
 }
 
-fn bytes(s: &[u8]) {
+fn bytes<W: Write>(writer: &mut W, s: &[u8]) -> io::Result<()> {
     let mut i = 0;
     while i < s.len() {
-        byte(s[i]);
+        byte(writer, s[i])?;
         i += 1;
     }
+    Ok(())
 }
 
 // 0, or the refusal's number.
@@ -49,43 +56,52 @@ fn number_of(finding: Finding) -> u8 {
     }
 }
 
-fn line<'a>(volatile: &'a [u8], saved: &'a [u8], number: i32) {
-    text(b"macro ");
-    signed(number);
-    text(b" of");
-    bytes(volatile);
-    text(b" and of");
-    bytes(saved);
-    text(b" gives ");
-    decimal(number_of(macros::found(volatile, saved, number)) as u32);
-    text(b":");
-    bytes(macros::look_up(volatile, saved, number));
-    text(b"\n");
+fn line<'a, W: Write>(
+    writer: &mut W,
+    volatile: &'a [u8],
+    saved: &'a [u8],
+    number: i32,
+) -> io::Result<()> {
+    text(writer, b"macro ")?;
+    signed(writer, number)?;
+    text(writer, b" of")?;
+    bytes(writer, volatile)?;
+    text(writer, b" and of")?;
+    bytes(writer, saved)?;
+    text(writer, b" gives ")?;
+    decimal(
+        writer,
+        number_of(macros::found(volatile, saved, number)) as u32,
+    )?;
+    text(writer, b":")?;
+    bytes(writer, macros::look_up(volatile, saved, number))?;
+    text(writer, b"\n")
 }
 
 // In one store, in the other, in both, and in none.
-fn found_and_absent() {
-    line(&VOLATILE, &SAVED, 5);
-    line(&VOLATILE, &SAVED, 300);
-    line(&VOLATILE, &SAVED, 7);
-    line(&VOLATILE, &SAVED, 32767);
-    line(&SAVED, &VOLATILE, 5);
-    line(&SAVED, &SAVED, 7);
-    line(&VOLATILE, &SAVED, 6);
-    line(&VOLATILE, b"", 7);
-    line(b"", b"", 0);
+fn found_and_absent<W: Write>(writer: &mut W) -> io::Result<()> {
+    line(writer, &VOLATILE, &SAVED, 5)?;
+    line(writer, &VOLATILE, &SAVED, 300)?;
+    line(writer, &VOLATILE, &SAVED, 7)?;
+    line(writer, &VOLATILE, &SAVED, 32767)?;
+    line(writer, &SAVED, &VOLATILE, 5)?;
+    line(writer, &SAVED, &SAVED, 7)?;
+    line(writer, &VOLATILE, &SAVED, 6)?;
+    line(writer, &VOLATILE, b"", 7)?;
+    line(writer, b"", b"", 0)
 }
 
-fn refused() {
-    line(&VOLATILE, &SAVED, -1);
-    line(&VOLATILE, &SAVED, 32768);
-    line(&VOLATILE, &SAVED, 65541);
-    line(&MALFORMED, &SAVED, 7);
-    line(&VOLATILE, &MALFORMED, 300);
-    line(&MALFORMED, &MALFORMED, -1);
+fn refused<W: Write>(writer: &mut W) -> io::Result<()> {
+    line(writer, &VOLATILE, &SAVED, -1)?;
+    line(writer, &VOLATILE, &SAVED, 32768)?;
+    line(writer, &VOLATILE, &SAVED, 65541)?;
+    line(writer, &MALFORMED, &SAVED, 7)?;
+    line(writer, &VOLATILE, &MALFORMED, 300)?;
+    line(writer, &MALFORMED, &MALFORMED, -1)
 }
 
-fn main() {
-    found_and_absent();
-    refused();
+fn main(rt: HostRuntime) -> io::Result<()> {
+    let mut writer = rt.stdout();
+    found_and_absent(&mut writer)?;
+    refused(&mut writer)
 }

@@ -4,8 +4,10 @@
 mod drawing;
 mod ppm;
 
-fn main() {
+use std::io;
+
+fn main(rt: HostRuntime) -> io::Result<()> {
     let mut surface = [0; 172800];
     drawing::draw(&mut surface);
-    ppm::write(&surface);
+    ppm::write(&mut rt.stdout(), &surface)
 }

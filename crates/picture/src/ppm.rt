@@ -1,6 +1,7 @@
 // A PPM: a heading, then three bytes for each pixel, the top row first.
 use crate::drawing;
-use libc::STDOUT_FILENO;
+use std::io;
+use std::io::Write;
 
 // black, white, red, green, blue, cyan, magenta, yellow
 const RED: [u8; 8] = [0, 255, 255, 0, 0, 0, 255, 255];
@@ -34,23 +35,24 @@ fn put_pixel(colour: usize, column: usize, out: &mut [u8]) {
 fn put_row(surface: &[u8], start: usize, out: &mut [u8]) {
     let mut column = 0;
     while column < drawing::WIDTH {
-        let at = std::num::wrapping_add_usize(start, column);
+        let at = start.wrapping_add(column);
         put_pixel(colour_at(surface, at), column, out);
         column += 1;
     }
 }
 
-fn write_row(surface: &[u8], start: usize) {
+fn write_row<W: Write>(writer: &mut W, surface: &[u8], start: usize) -> io::Result<()> {
     let mut out = [0; 1440];
     put_row(surface, start, &mut out);
-    io::write_all(STDOUT_FILENO, &out);
+    writer.write_all(&out)
 }
 
-pub fn write(surface: &[u8]) {
-    io::write_all(STDOUT_FILENO, b"P6\n480 360\n255\n");
+pub fn write<W: Write>(writer: &mut W, surface: &[u8]) -> io::Result<()> {
+    writer.write_all(b"P6\n480 360\n255\n")?;
     let mut row = 0;
     while row < drawing::HEIGHT {
-        write_row(surface, row * 480);
+        write_row(writer, surface, row * 480)?;
         row += 1;
     }
+    Ok(())
 }

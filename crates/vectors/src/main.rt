@@ -2,9 +2,12 @@
 #![tactic(auto)]
 
 mod digest;
+mod input;
 mod print;
 mod table;
 mod values;
+
+use std::io;
 
 // The first `n` bytes, or all where there are fewer.
 pub fn front(s: &[u8], n: usize) -> &[u8] {
@@ -14,7 +17,8 @@ pub fn front(s: &[u8], n: usize) -> &[u8] {
     s
 }
 
-fn main() {
-    table::line();
-    values::lines();
+fn main(rt: HostRuntime) -> io::Result<()> {
+    let mut writer = rt.stdout();
+    table::line(&mut rt.stdin(), &mut writer)?;
+    values::lines(&mut writer)
 }

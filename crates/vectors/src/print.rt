@@ -1,34 +1,41 @@
-// What the lines are made of, written to standard output. A write that fails is left to whoever compares the lines.
-use libc::STDOUT_FILENO;
+// What the lines are made of, as it is written.
+ghost use Rattle.std.specs.Prelude.{OnOk};
+ghost use Rattle.std.specs.Io.KnownBytes.{Appends};
 
-pub fn text(s: &[u8]) {
-    io::write_all(STDOUT_FILENO, s);
+use std::io;
+use std::io::Write;
+
+pub fn text<W: Write>(writer: &mut W, s: &[u8]) -> io::Result<()>
+    ensures { OnOk result (Appends (W.contents writer.old) (W.contents writer.new) s.now) }
+{
+    writer.write_all(s)
 }
 
-pub fn number(n: u64) {
-    io::print_decimal(STDOUT_FILENO, n);
+pub fn number<W: Write>(writer: &mut W, n: u64) -> io::Result<()> {
+    write!(writer, "{n}")
 }
 
-pub fn signed(v: i32) {
+pub fn signed<W: Write>(writer: &mut W, v: i32) -> io::Result<()> {
     if signs::is_negative(v) {
-        text(b"-");
+        text(writer, b"-")?;
     }
-    number(signs::magnitude(v) as u64);
+    number(writer, signs::magnitude(v) as u64)
 }
 
 // The byte that stands `i` places behind the first, with a blank before it.
-fn byte(i: usize, b: u8) {
+fn byte<W: Write>(writer: &mut W, i: usize, b: u8) -> io::Result<()> {
     if i > 0 {
-        text(b" ");
+        text(writer, b" ")?;
     }
-    number(b as u64);
+    number(writer, b as u64)
 }
 
 // In decimal, "with a blank between".
-pub fn bytes(s: &[u8]) {
+pub fn bytes<W: Write>(writer: &mut W, s: &[u8]) -> io::Result<()> {
     let mut i = 0;
     while i < s.len() {
-        byte(i, s[i]);
+        byte(writer, i, s[i])?;
         i += 1;
     }
+    Ok(())
 }

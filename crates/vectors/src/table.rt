@@ -1,7 +1,8 @@
 // The manual's Table D-1: "a row a line, value, tab, the bytes in decimal with a blank between".
-use crate::{digest, front, print};
-use libc::STDIN_FILENO;
+use crate::{digest, front, input, print};
 use numbers::IntegerRead;
+use std::io;
+use std::io::{Read, Write};
 use wire::Written;
 
 // No integer has more bytes.
@@ -80,7 +81,7 @@ fn with_byte(row: Row) -> Row {
 fn is_written_so(v: i32, bytes: &[u8]) -> bool {
     let mut out = [255; 8];
     match spelling::write_integer(memory::fresh(), v, &mut out, 0) {
-        Written::Next(n) => check::same(front(&out, n), bytes),
+        Written::Next(n) => front(&out, n) == bytes,
         Written::Refused(_) => false,
     }
 }
@@ -101,7 +102,7 @@ fn is_read_so(v: i32, bytes: &[u8]) -> bool {
 // Standard input is read into 65,536 bytes, so no count comes near its end.
 fn one_more(n: u32, counts: bool) -> u32 {
     if counts {
-        return std::num::wrapping_add_u32(n, 1);
+        return n.wrapping_add(1);
     }
     n
 }
@@ -176,17 +177,17 @@ fn tally_of(s: &[u8]) -> Tally {
     reading.tally
 }
 
-pub fn line() {
-    let mut space = io::large_buffer();
-    let n = io::read_full(STDIN_FILENO, &mut space);
+pub fn line<R: Read, W: Write>(reader: &mut R, writer: &mut W) -> io::Result<()> {
+    let mut space = [0; 65536];
+    let n = input::read_full(reader, &mut space)?;
     let tally = tally_of(&space[..n]);
-    print::text(b"table-d1 ");
-    print::number(tally.rows as u64);
-    print::text(b" rows ");
-    print::number(tally.written as u64);
-    print::text(b" written ");
-    print::number(tally.read as u64);
-    print::text(b" read ");
-    print::number(tally.digest as u64);
-    print::text(b"\n");
+    print::text(writer, b"table-d1 ")?;
+    print::number(writer, tally.rows as u64)?;
+    print::text(writer, b" rows ")?;
+    print::number(writer, tally.written as u64)?;
+    print::text(writer, b" written ")?;
+    print::number(writer, tally.read as u64)?;
+    print::text(writer, b" read ")?;
+    print::number(writer, tally.digest as u64)?;
+    print::text(writer, b"\n")
 }
