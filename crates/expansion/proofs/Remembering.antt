@@ -1,4 +1,4 @@
--- What an expansion remembers stays inside, so that each item of a body is read: by `refused-is-a-command` 17 comes for a refused or cut command
+-- What an expansion remembers stays inside, so that each item of a body is read: by `refused-is_a_command` 17 comes for a refused or cut command
 -- and for nothing else.
 use Prim.Native.Nat.{ℕ, zero, suc, ◌+◌}
 use mathlib.Core.Path.{◌≡◌, refl}

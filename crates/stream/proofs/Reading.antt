@@ -180,3 +180,6 @@ module _ (kept : Remembered) (s : List ℕ) (start room : ℕ) where
 
           pub escape_list : (l : List ℤ) {o : List ℤ} → o ≡ after_item (command_item kept s start room) l → o ≡ after_item (item_at kept s start room) l
           escape_list l j = rw escape j
+
+-- the item that starts with an ESC
+pub ruleset escape_items = (list_kept, item-whole, item-refused_call, item-refused_command)

@@ -83,6 +83,7 @@ fn byte_item(mode: DelMode, b: u8, next: usize) -> Item
 }
 
 // The item that starts with the ESC at `start`. The list's being too short makes no item.
+#[tactic(auto, using(crate::proofs::Reading::escape_items))]
 fn command_item(kept: Remembered, s: &[u8], start: usize, list: &mut [i32]) -> Item
     ensures { (item_of result ≡ told_item (command_item kept s.now start (length list.old))) × (list.new ≡ after_item (command_item kept s.now start (length list.old)) list.old) }
 {
