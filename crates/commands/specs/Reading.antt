@@ -4,7 +4,8 @@ use Rattle.std.proofs.lemmas.List.Edits.{sets}
 use Rattle.memory.specs.declared.DelMode.{DelMode}
 use Rattle.memory.specs.declared.Remembered.{Remembered}
 use Rattle.refusals.specs.Refusals.{number_of}
-use Rattle.refusals.specs.Answers.{Answer, done, refused, Read, then, pick}
+use Rattle.refusals.specs.declared.Taken.{Taken}
+use Rattle.refusals.specs.Answers.{Answer, done, refused, then, pick}
 use Rattle.wire.specs.Taking.{past_dels}
 use Rattle.table.specs.Table.{ParameterKind, Tabled, in_table, not_in_table, kind_meant, begins, kind_of}
 use Rattle.parameters.specs.declared.TakenParameters.{TakenParameters}
@@ -21,14 +22,14 @@ use Rattle.commands.specs.Behind.{leading, after_letters, after_command}
 -- ---- the letters
 
 -- the letter at at: "An op letter of 27 is refusal 6 there."
-unfoldable pub letter_here : List ℕ → ℕ → Answer (Read ℕ)
+unfoldable pub letter_here : List ℕ → ℕ → Answer (Taken ℕ)
 letter_here s at =
     pick (ltb at (length s))
     (pick (eqb (get_or s at 0) 27) (refused 6 at) (done (record { value = get_or s at 0; place = at; next = at + 1 })))
     (refused 1 (length s))
 
 -- "each plain 127, in text, between letters or in a parameter, is passed over"
-abbrev pub letter_at : DelMode → List ℕ → ℕ → Answer (Read ℕ)
+abbrev pub letter_at : DelMode → List ℕ → ℕ → Answer (Taken ℕ)
 letter_at mode s at = letter_here s (past_dels mode s at)
 
 -- the letters, their kind, and where the parameters start
@@ -45,7 +46,7 @@ unfoldable pub head_of : HeadRead → Answer Letters
 head_of (Head h) = done (letters_of h)
 head_of (HeadRead.Refused e p) = refused (number_of e) p
 
-abbrev pub completed : ℕ → Read ℕ → Tabled → Answer Letters
+abbrev pub completed : ℕ → Taken ℕ → Tabled → Answer Letters
 completed a b (in_table k) = done (record { first = a; second = b.value; kind = k; next = b.next })
 completed a b not_in_table = refused 2 b.place
 

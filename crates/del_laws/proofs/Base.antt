@@ -7,7 +7,8 @@ use Rattle.memory.specs.declared.DelMode.{DelMode}
 use Rattle.memory.specs.declared.DelMode.TheVariants.{Data}
 use Rattle.memory.specs.declared.Point.{Point}
 use Rattle.memory.specs.declared.Remembered.{Remembered}
-use Rattle.refusals.specs.Answers.{Answer, done, refused, Read, then, all_after}
+use Rattle.refusals.specs.declared.Taken.{Taken}
+use Rattle.refusals.specs.Answers.{Answer, done, refused, then, all_after}
 use Rattle.wire.specs.Taking.{past_dels, pair_at, found_at, byte_at}
 use Rattle.numbers.specs.Integers.{integer_from, integer_at}
 use Rattle.points.specs.Reading.{by_kind, last_at, after_lo_y, after_upper, after_hi_y, point_from, point_at}
@@ -75,5 +76,5 @@ module _ (s : List ℕ) where
 
   pub entries-so : (p : Parsed) → p.kept.mode ≡ Data → parsed_entries s p ≡ base_entries s p
   entries-so p e =
-      ap (λ (one : ℕ → Answer (Read ℤ)). all_after one p.count p.start)
+      ap (λ (one : ℕ → Answer (Taken ℤ)). all_after one p.count p.start)
       (ap (λ (k : Remembered). entry_at (entry_in p.tail) k s) (alone e) ∙ entry_so p.kept.point (entry_in p.tail))

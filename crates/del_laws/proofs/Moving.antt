@@ -12,7 +12,8 @@ use Rattle.memory.specs.declared.DelMode.TheVariants.{Filler}
 use Rattle.memory.specs.declared.Point.{Point}
 use Rattle.memory.specs.declared.Remembered.{Remembered}
 use Rattle.memory.specs.Memory.{inside, in_mode}
-use Rattle.refusals.specs.Answers.{Answer, done, refused, Read, then, pick, ends_after, all_after}
+use Rattle.refusals.specs.declared.Taken.{Taken}
+use Rattle.refusals.specs.Answers.{Answer, done, refused, then, pick, ends_after, all_after}
 use Rattle.refusals.proofs.Cases.{by_then, Done, done-of, is-done, not_done}
 use Rattle.wire.specs.Taking.{byte_at}
 use Rattle.wire.proofs.Feeds.{took}
@@ -61,7 +62,7 @@ moved-pick f g true x y x' y' h k = h refl
 moved-pick f g false x y x' y' h k = k refl
 
 module _ (f : ℕ → ℕ) where
-  abbrev pub read_moved : {A : Type 0} → Read A → Read A
+  abbrev pub read_moved : {A : Type 0} → Taken A → Taken A
   read_moved r = record { value = r.value; place = f r.place; next = f r.next }
 
   abbrev pub run_moved : CountedRun → CountedRun
@@ -114,10 +115,10 @@ module _ (f : ℕ → ℕ) (m : DelMode) (s r : List ℕ) (alike : Reads f m s r
 
     -- ---- points
 
-    abbrev PointMoved : Answer (Read Point) → Answer (Read Point) → Type 0
+    abbrev PointMoved : Answer (Taken Point) → Answer (Taken Point) → Type 0
     PointMoved b a = b ≡ moved f (read_moved f) a
 
-    kind-moved : (at : ℕ) (hi lo up hi' lo' up' : Read ℕ → Answer (Read Point)) → at ≤ length s → ((c : Read ℕ) → c.next ≤ length s → PointMoved (hi' (read_moved f c)) (hi c)) → ((c : Read ℕ) → PointMoved (lo' (read_moved f c)) (lo c)) → ((c : Read ℕ) → c.next ≤ length s → PointMoved (up' (read_moved f c)) (up c)) → PointMoved (by_kind other r (f at) hi' lo' up') (by_kind kept s at hi lo up)
+    kind-moved : (at : ℕ) (hi lo up hi' lo' up' : Taken ℕ → Answer (Taken Point)) → at ≤ length s → ((c : Taken ℕ) → c.next ≤ length s → PointMoved (hi' (read_moved f c)) (hi c)) → ((c : Taken ℕ) → PointMoved (lo' (read_moved f c)) (lo c)) → ((c : Taken ℕ) → c.next ≤ length s → PointMoved (up' (read_moved f c)) (up c)) → PointMoved (by_kind other r (f at) hi' lo' up') (by_kind kept s at hi lo up)
     unfolding by_kind
     kind-moved at hi lo up hi' lo' up' i x y z =
         moved_then f (read_moved f) (read_moved f) (byte_at kept s at) _ _ _ (alike.bytes kept at e i)
@@ -126,11 +127,11 @@ module _ (f : ℕ → ℕ) (m : DelMode) (s r : List ℕ) (alike : Reads f m s r
         (λ t. x c w)
         (λ t. moved-pick f (read_moved f) (ltb c.value 96) _ _ _ _ (λ u. y c) (λ u. z c w)))
 
-    not_moved : (c : Read ℕ) → PointMoved (not_allowed (read_moved f c)) (not_allowed c)
+    not_moved : (c : Taken ℕ) → PointMoved (not_allowed (read_moved f c)) (not_allowed c)
     unfolding moved
     not_moved c = refl
 
-    lo_moved : (b : PointBytes) (c : Read ℕ) → PointMoved (lo_x b (read_moved f c)) (lo_x b c)
+    lo_moved : (b : PointBytes) (c : Taken ℕ) → PointMoved (lo_x b (read_moved f c)) (lo_x b c)
     unfolding moved ends_at
     lo_moved b c = refl
 
@@ -176,7 +177,7 @@ module _ (f : ℕ → ℕ) (m : DelMode) (s r : List ℕ) (alike : Reads f m s r
         moved_then f (read_moved f) f (entry_at n kept s at) _ _ _ (entry_moved n at i) (λ b q. ends-moved n k b.next (entry_good n kept s at b q).within)
 
     -- the values themselves do not move
-    values-by : (n : Entry) (k at : ℕ) (a : Answer (Read ℤ)) → entry_at n kept s at ≡ a → entry_at n other r (f at) ≡ moved f (read_moved f) a → ((x : Read ℤ) → a ≡ done x → all_after (entry_at n other r) k (f x.next) ≡ all_after (entry_at n kept s) k x.next) → all_after (entry_at n other r) (suc k) (f at) ≡ all_after (entry_at n kept s) (suc k) at
+    values-by : (n : Entry) (k at : ℕ) (a : Answer (Taken ℤ)) → entry_at n kept s at ≡ a → entry_at n other r (f at) ≡ moved f (read_moved f) a → ((x : Taken ℤ) → a ≡ done x → all_after (entry_at n other r) k (f x.next) ≡ all_after (entry_at n kept s) k x.next) → all_after (entry_at n other r) (suc k) (f at) ≡ all_after (entry_at n kept s) (suc k) at
     unfolding all_after moved
     values-by n k at (done x) q w h = rw (q, w) (ap (λ (l : List ℤ). x.value ∷ l) (h x refl))
     values-by n k at (refused y p) q w h = rw (q, w)

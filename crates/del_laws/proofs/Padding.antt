@@ -11,7 +11,8 @@ use Rattle.memory.specs.declared.DelMode.{DelMode}
 use Rattle.memory.specs.declared.DelMode.TheVariants.{Data, Filler}
 use Rattle.memory.specs.declared.Remembered.{Remembered}
 use Rattle.memory.specs.Memory.{inside, in_mode}
-use Rattle.refusals.specs.Answers.{Answer, done, refused, Read, then, pick, past_front}
+use Rattle.refusals.specs.declared.Taken.{Taken}
+use Rattle.refusals.specs.Answers.{Answer, done, refused, then, pick, past_front}
 use Rattle.refusals.proofs.Cases.{by_pick, done-of, bool_apart}
 use Rattle.refusals.proofs.Passing.{past_one, past_here, past_none}
 use Rattle.wire.specs.Taking.{is_del, past_dels}
@@ -71,7 +72,7 @@ module _ (m : DelMode) (s : List ℕ) where
   abbrev letters_moved : Letters → Letters
   letters_moved l = record { first = l.first; second = l.second; kind = l.kind; next = f l.next }
 
-  completed-moved : (a : ℕ) (b : Read ℕ) (t : Tabled) → completed a (read_moved f b) t ≡ moved f letters_moved (completed a b t)
+  completed-moved : (a : ℕ) (b : Taken ℕ) (t : Tabled) → completed a (read_moved f b) t ≡ moved f letters_moved (completed a b t)
   unfolding moved
   completed-moved a b (in_table k) = refl
   completed-moved a b not_in_table = refl

@@ -12,7 +12,8 @@ use Rattle.memory.specs.declared.DelMode.{DelMode}
 use Rattle.memory.specs.declared.DelMode.TheVariants.{Data, Filler}
 use Rattle.memory.specs.declared.Remembered.{Remembered}
 use Rattle.memory.specs.Memory.{in_mode}
-use Rattle.refusals.specs.Answers.{Answer, done, refused, Read, pick, past_front}
+use Rattle.refusals.specs.declared.Taken.{Taken}
+use Rattle.refusals.specs.Answers.{Answer, done, refused, pick, past_front}
 use Rattle.refusals.proofs.Cases.{by_pick}
 use Rattle.refusals.proofs.Passing.{past_one, past_here, past_none, past_stops}
 use Rattle.wire.specs.Taking.{is_del, past_dels, pair_at, found_at, byte_at}
@@ -133,7 +134,7 @@ module _ (s : List ℕ) where
 
   -- ---- a byte
 
-  abbrev Same : Answer (Read ℕ) → Answer (Read ℕ) → Type 0
+  abbrev Same : Answer (Taken ℕ) → Answer (Taken ℕ) → Type 0
   Same b a = b ≡ moved f (read_moved f) a
 
   -- the byte behind an ESC

@@ -13,7 +13,8 @@ use Rattle.memory.specs.declared.DelMode.{DelMode}
 use Rattle.memory.specs.declared.Point.{Point}
 use Rattle.memory.specs.declared.Remembered.{Remembered}
 use Rattle.memory.specs.Memory.{inside}
-use Rattle.refusals.specs.Answers.{Answer, done, refused, Read, then, ends_after, every}
+use Rattle.refusals.specs.declared.Taken.{Taken}
+use Rattle.refusals.specs.Answers.{Answer, done, refused, then, ends_after, every}
 use Rattle.refusals.proofs.Cases.{by_pick, done-of, and_left, and_right, Ranged, ranged_done, ranged_refused, farther, ranged_then, ranged_to}
 use Rattle.wire.specs.Taking.{past_dels, pair_at, found_at, byte_at}
 use Rattle.wire.proofs.Feeds.{dels_on, dels_within, Took, took}
@@ -38,7 +39,7 @@ use Rattle.laws.proofs.RoundTrip.{still_inside}
 use Rattle.laws.proofs.Shortest.{FixedShown, part-good, letter_shown, HeadShown, head_good}
 
 -- where reading goes on
-abbrev onward : {A : Type 0} → Read A → ℕ
+abbrev onward : {A : Type 0} → Taken A → ℕ
 onward r = r.next
 
 module _ (kept : Remembered) (s : List ℕ) where
@@ -65,7 +66,7 @@ module _ (kept : Remembered) (s : List ℕ) where
       (λ w. ranged_done onward at (length s) _ (omega arith) (omega arith)))))
       (λ t. ranged_refused onward at (length s) 1 (length s) h (omega arith))
     where
-      P : Answer (Read ℕ) → Type 0
+      P : Answer (Taken ℕ) → Type 0
       P = Ranged onward at (length s)
 
   byte_ranged : (at : ℕ) → at ≤ length s → Ranged onward at (length s) (byte_at kept s at)
@@ -97,30 +98,30 @@ module _ (kept : Remembered) (s : List ℕ) where
       (λ l. farther onward at b.next (length s) _ f (integer-ranged k (h * 64 + b.value % 64) b.next w)))
 
   -- the place of an integer is its low byte, before where reading goes on
-  Placed : ℕ → Answer (Read ℤ) → Type 0
-  Placed at = Ranged (λ (r : Read ℤ). r.place) at (length s)
+  Placed : ℕ → Answer (Taken ℤ) → Type 0
+  Placed at = Ranged (λ (r : Taken ℤ). r.place) at (length s)
 
   in_placed : (at m : ℕ) (t : Bool) (p n : ℕ) → at ≤ p → p ≤ length s → Placed at (in_range m t p n)
   unfolding Placed
   in_placed at m t p n h w =
-      by_pick (Ranged (λ (r : Read ℤ). r.place) at (length s)) (leb m (most_magnitude t)) _ _
-      (λ u. ranged_done (λ (r : Read ℤ). r.place) at (length s) _ h w)
-      (λ u. ranged_refused (λ (r : Read ℤ). r.place) at (length s) 4 p h w)
+      by_pick (Ranged (λ (r : Taken ℤ). r.place) at (length s)) (leb m (most_magnitude t)) _ _
+      (λ u. ranged_done (λ (r : Taken ℤ). r.place) at (length s) _ h w)
+      (λ u. ranged_refused (λ (r : Taken ℤ). r.place) at (length s) 4 p h w)
 
   integer-placed : (k h at : ℕ) → at ≤ length s → Placed at (integer_from kept k h s at)
   unfolding integer_from Placed
   integer-placed zero h at i =
-      ranged_then onward (λ (r : Read ℤ). r.place) at (length s) (byte_at kept s at) _ (byte_ranged at i)
+      ranged_then onward (λ (r : Taken ℤ). r.place) at (length s) (byte_at kept s at) _ (byte_ranged at i)
       (λ b e f w. let t = took kept s at e in
-      by_pick (Ranged (λ (r : Read ℤ). r.place) at (length s)) (ltb b.value 64) _ _
+      by_pick (Ranged (λ (r : Taken ℤ). r.place) at (length s)) (ltb b.value 64) _ _
       (λ l. in_placed at (h * 16 + b.value % 16) (ltb b.value 48) b.place b.next t.from (omega (arith, t.behind)))
-      (λ l. ranged_refused (λ (r : Read ℤ). r.place) at (length s) 4 b.place t.from (omega (arith, t.behind))))
+      (λ l. ranged_refused (λ (r : Taken ℤ). r.place) at (length s) 4 b.place t.from (omega (arith, t.behind))))
   integer-placed (suc k) h at i =
-      ranged_then onward (λ (r : Read ℤ). r.place) at (length s) (byte_at kept s at) _ (byte_ranged at i)
+      ranged_then onward (λ (r : Taken ℤ). r.place) at (length s) (byte_at kept s at) _ (byte_ranged at i)
       (λ b e f w. let t = took kept s at e in
-      by_pick (Ranged (λ (r : Read ℤ). r.place) at (length s)) (ltb b.value 64) _ _
+      by_pick (Ranged (λ (r : Taken ℤ). r.place) at (length s)) (ltb b.value 64) _ _
       (λ l. in_placed at (h * 16 + b.value % 16) (ltb b.value 48) b.place b.next t.from (omega (arith, t.behind)))
-      (λ l. farther (λ (r : Read ℤ). r.place) at b.next (length s) _ f (integer-placed k (h * 64 + b.value % 64) b.next w)))
+      (λ l. farther (λ (r : Taken ℤ). r.place) at b.next (length s) _ f (integer-placed k (h * 64 + b.value % 64) b.next w)))
 
   count-ranged : (at : ℕ) → at ≤ length s → Ranged onward at (length s) (count_at kept s at)
   unfolding count_in Placed
@@ -134,16 +135,16 @@ module _ (kept : Remembered) (s : List ℕ) where
       (λ u. ranged_done onward at (length s) _ f w)
       (λ u. ranged_refused onward at (length s) 5 r.place q.0 q.1)))
     where
-      placed_of : {a : Answer (Read ℤ)} {x : Read ℤ} → Ranged (λ (r : Read ℤ). r.place) at (length s) a → a ≡ done x → (at ≤ x.place) × (x.place ≤ length s)
-      placed_of h e = ranged_to (λ (r : Read ℤ). r.place) at (length s) h e
+      placed_of : {a : Answer (Taken ℤ)} {x : Taken ℤ} → Ranged (λ (r : Taken ℤ). r.place) at (length s) a → a ≡ done x → (at ≤ x.place) × (x.place ≤ length s)
+      placed_of h e = ranged_to (λ (r : Taken ℤ). r.place) at (length s) h e
 
   -- ---- points
 
-  abbrev InPoint : ℕ → Answer (Read Point) → Type 0
+  abbrev InPoint : ℕ → Answer (Taken Point) → Type 0
   InPoint at = Ranged onward at (length s)
 
   -- a byte of a point, by its kind; what is refused is refused at it
-  kind-ranged : (at : ℕ) (hi lo upper : Read ℕ → Answer (Read Point)) → at ≤ length s → ((b : Read ℕ) → Took s at b → InPoint at (hi b)) → ((b : Read ℕ) → Took s at b → InPoint at (lo b)) → ((b : Read ℕ) → Took s at b → InPoint at (upper b)) → InPoint at (by_kind kept s at hi lo upper)
+  kind-ranged : (at : ℕ) (hi lo upper : Taken ℕ → Answer (Taken Point)) → at ≤ length s → ((b : Taken ℕ) → Took s at b → InPoint at (hi b)) → ((b : Taken ℕ) → Took s at b → InPoint at (lo b)) → ((b : Taken ℕ) → Took s at b → InPoint at (upper b)) → InPoint at (by_kind kept s at hi lo upper)
   unfolding by_kind
   kind-ranged at hi lo upper i f g h =
       ranged_then onward onward at (length s) (byte_at kept s at) _ (byte_ranged at i)
@@ -152,14 +153,14 @@ module _ (kept : Remembered) (s : List ℕ) where
       (λ u. f b t)
       (λ u. by_pick (InPoint at) (ltb b.value 96) _ _ (λ v. g b t) (λ v. h b t)))
 
-  not_ranged : (at : ℕ) (b : Read ℕ) → Took s at b → InPoint at (not_allowed b)
+  not_ranged : (at : ℕ) (b : Taken ℕ) → Took s at b → InPoint at (not_allowed b)
   not_ranged at b t = ranged_refused onward at (length s) 3 b.place t.from (omega (arith, t.behind, t.within))
 
-  lo_ranged : (c : PointBytes) (at : ℕ) (b : Read ℕ) → Took s at b → InPoint at (lo_x c b)
+  lo_ranged : (c : PointBytes) (at : ℕ) (b : Taken ℕ) → Took s at b → InPoint at (lo_x c b)
   unfolding ends_at
   lo_ranged c at b t = ranged_done onward at (length s) _ (omega (arith, t.forward)) t.within
 
-  onto : (at : ℕ) (b : Read ℕ) → Took s at b → (a : Answer (Read Point)) → InPoint b.next a → InPoint at a
+  onto : (at : ℕ) (b : Taken ℕ) → Took s at b → (a : Answer (Taken Point)) → InPoint b.next a → InPoint at a
   onto at b t a h = farther onward at b.next (length s) a (omega (arith, t.forward)) h
 
   last-ranged : (c : PointBytes) (at : ℕ) → at ≤ length s → InPoint at (last_at kept c s at)
@@ -307,7 +308,7 @@ letter_ranged m s at i =
 abbrev letters_next : Letters → ℕ
 letters_next h = h.next
 
-completed-ranged : (s : List ℕ) (at a : ℕ) (b : Read ℕ) (f : Tabled) → at ≤ b.place → b.place < b.next → b.next ≤ length s → Ranged letters_next at (length s) (completed a b f)
+completed-ranged : (s : List ℕ) (at a : ℕ) (b : Taken ℕ) (f : Tabled) → at ≤ b.place → b.place < b.next → b.next ≤ length s → Ranged letters_next at (length s) (completed a b f)
 completed-ranged s at a b (in_table k) h g w = ranged_done letters_next at (length s) _ (omega arith) w
 completed-ranged s at a b not_in_table h g w = ranged_refused letters_next at (length s) 2 b.place h (omega arith)
 

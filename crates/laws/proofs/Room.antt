@@ -13,7 +13,8 @@ use Rattle.memory.specs.declared.DelMode.{DelMode}
 use Rattle.memory.specs.declared.Point.{Point}
 use Rattle.memory.specs.declared.Remembered.{Remembered}
 use Rattle.memory.specs.Memory.{inside}
-use Rattle.refusals.specs.Answers.{Answer, done, refused, Read, then, ends_after}
+use Rattle.refusals.specs.declared.Taken.{Taken}
+use Rattle.refusals.specs.Answers.{Answer, done, refused, then, ends_after}
 use Rattle.refusals.proofs.Cases.{by_pick, done-of, and_left, and_right}
 use Rattle.wire.specs.Taking.{past_dels, pair_at, found_at, byte_at}
 use Rattle.signs.specs.Signs.{is_negative}
@@ -68,7 +69,7 @@ module _ (kept : Remembered) (s : List ℕ) where
       (λ u. by_pick P (ltb (get_or s at 0) 32) _ _ (λ v. low Any 3 _ refl) (λ v. by_pick P (ltb 127 (get_or s at 0)) _ _ (λ w. low Any 3 _ refl) (λ w. early Any _ tt))))
       (λ t. low Any 1 _ refl)
     where
-      P : Answer (Read ℕ) → Type 0
+      P : Answer (Taken ℕ) → Type 0
       P = Early Any
 
   byte_early : (at : ℕ) → Early Any (byte_at kept s at)
@@ -87,7 +88,7 @@ module _ (kept : Remembered) (s : List ℕ) where
       early_then Any Any (byte_at kept s at) _ (byte_early at)
       (λ b e q. by_pick (Early Any) (ltb b.value 64) _ _ (λ l. in-range (h * 16 + b.value % 16) (ltb b.value 48) b.place b.next) (λ l. integer-early k (h * 64 + b.value % 64) b.next))
 
-  abbrev Few : Read ℕ → Type 0
+  abbrev Few : Taken ℕ → Type 0
   Few c = c.value ≤ 256
 
   count-early : (at : ℕ) → Early Few (count_at kept s at)
@@ -100,16 +101,16 @@ module _ (kept : Remembered) (s : List ℕ) where
 
   -- ---- points
 
-  kind-early : (at : ℕ) (hi lo upper : Read ℕ → Answer (Read Point)) → ((b : Read ℕ) → Early Any (hi b)) → ((b : Read ℕ) → Early Any (lo b)) → ((b : Read ℕ) → Early Any (upper b)) → Early Any (by_kind kept s at hi lo upper)
+  kind-early : (at : ℕ) (hi lo upper : Taken ℕ → Answer (Taken Point)) → ((b : Taken ℕ) → Early Any (hi b)) → ((b : Taken ℕ) → Early Any (lo b)) → ((b : Taken ℕ) → Early Any (upper b)) → Early Any (by_kind kept s at hi lo upper)
   unfolding by_kind
   kind-early at hi lo upper f g h =
       early_then Any Any (byte_at kept s at) _ (byte_early at)
       (λ b e q. by_pick (Early Any) (ltb b.value 64) _ _ (λ u. f b) (λ u. by_pick (Early Any) (ltb b.value 96) _ _ (λ v. g b) (λ v. h b)))
 
-  not_here : (b : Read ℕ) → Early Any (not_allowed b)
+  not_here : (b : Taken ℕ) → Early Any (not_allowed b)
   not_here b = low Any 3 _ refl
 
-  lo_early : (c : PointBytes) (b : Read ℕ) → Early Any (lo_x c b)
+  lo_early : (c : PointBytes) (b : Taken ℕ) → Early Any (lo_x c b)
   unfolding ends_at
   lo_early c b = early Any _ tt
 
@@ -194,7 +195,7 @@ letter_early m s at =
     (λ t. by_pick (Early Any) (eqb (get_or s p 0) 27) _ _ (λ u. low Any 6 _ refl) (λ u. early Any _ tt))
     (λ t. low Any 1 _ refl)
 
-completed-early : (a : ℕ) (b : Read ℕ) (f : Tabled) → Early Any (completed a b f)
+completed-early : (a : ℕ) (b : Taken ℕ) (f : Tabled) → Early Any (completed a b f)
 completed-early a b (in_table k) = early Any _ tt
 completed-early a b not_in_table = low Any 2 b.place refl
 

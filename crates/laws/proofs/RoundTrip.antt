@@ -12,7 +12,8 @@ use lib.IntN.{ℤ, pos, nat_abs}
 use Rattle.memory.specs.declared.DelMode.{DelMode}
 use Rattle.memory.specs.declared.Remembered.{Remembered}
 use Rattle.memory.specs.Memory.{inside}
-use Rattle.refusals.specs.Answers.{Answer, done, refused, Read, Reads, pick, ends_after, all_after}
+use Rattle.refusals.specs.declared.Taken.{Taken}
+use Rattle.refusals.specs.Answers.{Answer, done, refused, Reads, pick, ends_after, all_after}
 use Rattle.refusals.proofs.Cases.{and_left, and_right, zero_one}
 use Rattle.refusals.proofs.Many.{every-split}
 use Rattle.wire.specs.Taking.{past_dels}
@@ -44,10 +45,10 @@ use Rattle.stream.specs.Items.{command_item, item_at}
 use Rattle.laws.specs.Laws.{carried, Back}
 
 -- what `Reads` says, taken apart
-abbrev Got : {A : Type 0} → Answer (Read A) → A → ℕ → Type 0
-Got {A} a v n = (r : Read A) × ((a ≡ done r) × ((r.value ≡ v) × (r.next ≡ n)))
+abbrev Got : {A : Type 0} → Answer (Taken A) → A → ℕ → Type 0
+Got {A} a v n = (r : Taken A) × ((a ≡ done r) × ((r.value ≡ v) × (r.next ≡ n)))
 
-got : {A : Type 0} (a : Answer (Read A)) (v : A) (n : ℕ) → Reads v n a → Got a v n
+got : {A : Type 0} (a : Answer (Taken A)) (v : A) (n : ℕ) → Reads v n a → Got a v n
 unfolding Reads
 got (done r) v n h = (r, (refl, h))
 got (refused x p) v n h = absurd h

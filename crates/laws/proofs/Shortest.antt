@@ -12,7 +12,8 @@ use lib.IntN.{ℤ, pos}
 use Rattle.memory.specs.declared.DelMode.{DelMode}
 use Rattle.memory.specs.declared.Remembered.{Remembered}
 use Rattle.memory.specs.Memory.{inside}
-use Rattle.refusals.specs.Answers.{done, Read, pick, ends_after, all_after, every}
+use Rattle.refusals.specs.declared.Taken.{Taken}
+use Rattle.refusals.specs.Answers.{done, pick, ends_after, all_after, every}
 use Rattle.refusals.proofs.Cases.{by_pick, by_then, Done, done-of, done-map, is-done, not_done, and_left, and_right}
 use Rattle.wire.specs.Taking.{past_dels, byte_at}
 use Rattle.wire.specs.Sending.{sent}
@@ -42,7 +43,7 @@ use Rattle.laws.proofs.RoundTrip.{part_of, shape_is}
 
 -- ---- one entry
 
-pub record EntryShown (e : Entry) (kept : Remembered) (s : List ℕ) (at : ℕ) (r : Read ℤ) : Type 0 where
+pub record EntryShown (e : Entry) (kept : Remembered) (s : List ℕ) (at : ℕ) (r : Taken ℤ) : Type 0 where
   pub writable : is_entry e r.value ≡ true
   pub shortest : at + length (spell_entry e kept r.value) ≤ r.next
   pub forward : at < r.next
@@ -51,7 +52,7 @@ pub record EntryShown (e : Entry) (kept : Remembered) (s : List ℕ) (at : ℕ) 
 character : (n : ℕ) → 32 ≤ n → n ≤ 127 → is_entry ACharacter (pos n) ≡ true
 character n l h = rw (le-leb 32 n l, le-leb n 127 h)
 
-pub entry_good : (e : Entry) (kept : Remembered) (s : List ℕ) (at : ℕ) (r : Read ℤ) → entry_at e kept s at ≡ done r → EntryShown e kept s at r
+pub entry_good : (e : Entry) (kept : Remembered) (s : List ℕ) (at : ℕ) (r : Taken ℤ) → entry_at e kept s at ≡ done r → EntryShown e kept s at r
 unfolding entry_at spell_entry
 entry_good AnInteger kept s at r g =
     let f = integer-shown kept s at g in
@@ -249,7 +250,7 @@ tail-good kept (list_of e) s at h =
 -- ---- the letters
 
 -- a letter stands behind the DELs that are passed over, within the bytes
-pub record LetterShown (s : List ℕ) (at : ℕ) (b : Read ℕ) : Type 0 where
+pub record LetterShown (s : List ℕ) (at : ℕ) (b : Taken ℕ) : Type 0 where
   pub from : at ≤ b.place
   pub behind-it : b.place < b.next
   pub within : b.next ≤ length s
@@ -263,7 +264,7 @@ here-good s at p h =
     (λ u. let l = ltb-true p (length s) t in is-done (LetterShown s at) (record { from = h; behind-it = omega arith; within = omega (arith, l) })))
     (λ t. not_done (LetterShown s at) 1 (length s))
 
-pub letter_shown : (m : DelMode) (s : List ℕ) (at : ℕ) {b : Read ℕ} → letter_at m s at ≡ done b → LetterShown s at b
+pub letter_shown : (m : DelMode) (s : List ℕ) (at : ℕ) {b : Taken ℕ} → letter_at m s at ≡ done b → LetterShown s at b
 letter_shown m s at e = done-of (LetterShown s at) (here-good s at (past_dels m s at) (dels_on m s at)) e
 
 pub record HeadShown (s : List ℕ) (at : ℕ) (h : Letters) : Type 0 where
@@ -271,7 +272,7 @@ pub record HeadShown (s : List ℕ) (at : ℕ) (h : Letters) : Type 0 where
   pub two : at + 2 ≤ h.next
   pub room : h.next ≤ length s
 
-completed-good : (s : List ℕ) (at a : ℕ) (b : Read ℕ) (f : Tabled) → kind_of a b.value ≡ f → at + 2 ≤ b.next → b.next ≤ length s → Done (HeadShown s at) (completed a b f)
+completed-good : (s : List ℕ) (at a : ℕ) (b : Taken ℕ) (f : Tabled) → kind_of a b.value ≡ f → at + 2 ≤ b.next → b.next ≤ length s → Done (HeadShown s at) (completed a b f)
 completed-good s at a b (in_table k) e h w = is-done (HeadShown s at) (record { known = e; two = h; room = w })
 completed-good s at a b not_in_table e h w = not_done (HeadShown s at) 2 b.place
 

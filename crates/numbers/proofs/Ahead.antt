@@ -10,7 +10,8 @@ use lib.Dec.{leb, ltb}
 use lib.IntN.{ℤ}
 use lib.ListN.{length, get_or}
 use Rattle.memory.specs.declared.Remembered.{Remembered}
-use Rattle.refusals.specs.Answers.{Answer, Read, done}
+use Rattle.refusals.specs.declared.Taken.{Taken}
+use Rattle.refusals.specs.Answers.{Answer, done}
 use Rattle.refusals.proofs.Cases.{and_left, and_right}
 use Rattle.wire.specs.Taking.{byte_at}
 use Rattle.wire.proofs.Feeds.{itself_any, itself_taken}
@@ -226,7 +227,7 @@ module _ (kept : Remembered) (s : List ℕ) (at : ℕ) (e : ends_ahead s at ≡ 
     pub place-ahead : at + n < length s
     place-ahead = omega (arith, room-ahead s at e, few-highs a b en)
 
-    pub low_ahead : {h : ℕ} {q : Answer (Read ℤ)} → h ≡ high_value a b → q ≡ low_byte h (get_or s (at + n) 0) (at + n) (at + n + 1) → q ≡ integer_at kept s at
+    pub low_ahead : {h : ℕ} {q : Answer (Taken ℤ)} → h ≡ high_value a b → q ≡ low_byte h (get_or s (at + n) 0) (at + n) (at + n + 1) → q ≡ integer_at kept s at
     low_ahead eh j = (rw (eh, en) at j) ∙ sym three-low
 
 module _ (s : List ℕ) (at : ℕ) (e : ends_ahead s at ≡ true) where

@@ -13,7 +13,8 @@ use mir.Facts.{to_z-of_z}
 use Rattle.memory.specs.declared.Remembered.{Remembered}
 use Rattle.refusals.specs.declared.Refusal.{Refusal}
 use Rattle.refusals.specs.declared.Refusal.TheVariants.{IntegerOutside, CountOutside}
-use Rattle.refusals.specs.Answers.{Answer, Read, done, refused}
+use Rattle.refusals.specs.declared.Taken.{Taken}
+use Rattle.refusals.specs.Answers.{Answer, done, refused}
 use Rattle.wire.specs.declared.ByteRead.{ByteRead}
 use Rattle.wire.specs.declared.TakenByte.{TakenByte}
 use Rattle.wire.specs.Taking.{byte_at, byte_of}
@@ -38,7 +39,7 @@ module _ (h b p n : ℕ) {l : ℕ} (el : l ≡ most_magnitude (ltb b 48)) where
 
 -- ---- one byte of an integer
 
-module _ (kept : Remembered) (s : List ℕ) (at : ℕ) {r : Read ℕ} (e : byte_at kept s at ≡ done r) where
+module _ (kept : Remembered) (s : List ℕ) (at : ℕ) {r : Taken ℕ} (e : byte_at kept s at ≡ done r) where
   pub low-byte : (k h : ℕ) → r.value < 64 → integer_from kept k h s at ≡ low_byte h r.value r.place r.next
   unfolding integer_from
   low-byte zero h l = rw (e, lt-ltb r.value 64 l)
@@ -59,14 +60,14 @@ no_byte kept s at (suc k) h e = rw e
 
 -- the same, as the code has it: what `take` gave, and what stands for the rest
 module _ (kept : Remembered) (s : List ℕ) (at : ℕ) {r : ByteRead} (e : byte_of r ≡ byte_at kept s at) where
-  pub low_step : (k h : ℕ) {b : TakenByte} {q : Answer (Read ℤ)} → r ≡ ByteRead.Byte b → b.value < 64 → q ≡ low_byte h b.value b.place b.next → q ≡ integer_from kept k h s at
+  pub low_step : (k h : ℕ) {b : TakenByte} {q : Answer (Taken ℤ)} → r ≡ ByteRead.Byte b → b.value < 64 → q ≡ low_byte h b.value b.place b.next → q ≡ integer_from kept k h s at
   low_step k h g l j = j ∙ sym (low-byte kept s at (byte_given kept s at e g) k h l)
 
   -- at the numerals that the contracts name
-  pub second-step : (h : ℕ) {b : TakenByte} {q : Answer (Read ℤ)} → r ≡ ByteRead.Byte b → 64 ≤ b.value → q ≡ integer_from kept 0 (h * 64 + b.value % 64) s b.next → q ≡ integer_from kept 1 h s at
+  pub second-step : (h : ℕ) {b : TakenByte} {q : Answer (Taken ℤ)} → r ≡ ByteRead.Byte b → 64 ≤ b.value → q ≡ integer_from kept 0 (h * 64 + b.value % 64) s b.next → q ≡ integer_from kept 1 h s at
   second-step h g l j = j ∙ sym (high_byte kept s at (byte_given kept s at e g) 0 h l)
 
-  pub first_step : {b : TakenByte} {q : Answer (Read ℤ)} → r ≡ ByteRead.Byte b → 64 ≤ b.value → q ≡ integer_from kept 1 (b.value % 64) s b.next → q ≡ integer_from kept 2 0 s at
+  pub first_step : {b : TakenByte} {q : Answer (Taken ℤ)} → r ≡ ByteRead.Byte b → 64 ≤ b.value → q ≡ integer_from kept 1 (b.value % 64) s b.next → q ≡ integer_from kept 2 0 s at
   first_step {b = b} g l j =
       j ∙ ap (λ (h : ℕ). integer_from kept 1 h s b.next) (omega arith) ∙ sym (high_byte kept s at (byte_given kept s at e g) 1 0 l)
 
@@ -105,5 +106,5 @@ module _ (most : ℕ) {r : IntegerRead} where
       unfolding count_in count_of integer_of
       count-over h = rw (g, sign t, ← size, lt-leb m most h)
 
-pub counted : (kept : Remembered) (s : List ℕ) (at : ℕ) {i : Answer (Read ℤ)} {q : Answer (Read ℕ)} → i ≡ integer_at kept s at → q ≡ count_in 256 i → q ≡ count_at kept s at
+pub counted : (kept : Remembered) (s : List ℕ) (at : ℕ) {i : Answer (Taken ℤ)} {q : Answer (Taken ℕ)} → i ≡ integer_at kept s at → q ≡ count_in 256 i → q ≡ count_at kept s at
 counted kept s at e j = rw (← e) j

@@ -10,7 +10,8 @@ use lib.Dec.{ltb}
 use lib.ListN.{length}
 use lib.IntN.{ℤ, pos, negsuc, nat_abs}
 use Rattle.memory.specs.declared.Remembered.{Remembered}
-use Rattle.refusals.specs.Answers.{Answer, done, refused, Read, Reads}
+use Rattle.refusals.specs.declared.Taken.{Taken}
+use Rattle.refusals.specs.Answers.{Answer, done, refused, Reads}
 use Rattle.wire.specs.Taking.{byte_at}
 use Rattle.wire.specs.Sending.{sent}
 use Rattle.wire.proofs.Feeds.{Feeds, Plain, Stands, stands-between, sent-taken}
@@ -117,7 +118,7 @@ integer-round kept before after v ok =
 
 -- ---- counts
 
-as-count : (most c n : ℕ) (a : Answer (Read ℤ)) → c ≤ most → Reads (pos c) n a → Reads c n (count_in most a)
+as-count : (most c n : ℕ) (a : Answer (Taken ℤ)) → c ≤ most → Reads (pos c) n a → Reads c n (count_in most a)
 unfolding Reads count_in
 as-count most c n (done r) h (e, z) = rw (e, le-leb c most h) (refl, z)
 as-count most c n (refused x p) h z = absurd z

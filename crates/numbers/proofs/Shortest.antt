@@ -9,7 +9,8 @@ use lib.Dec.{ltb, leb}
 use lib.ListN.{length, length-append}
 use lib.IntN.{ℤ, pos, negsuc, nat_abs}
 use Rattle.memory.specs.declared.Remembered.{Remembered}
-use Rattle.refusals.specs.Answers.{Answer, done, Read}
+use Rattle.refusals.specs.declared.Taken.{Taken}
+use Rattle.refusals.specs.Answers.{Answer, done}
 use Rattle.refusals.proofs.Cases.{by_pick, by_then, Done, done-of, is-done, not_done, zero_one}
 use Rattle.wire.specs.Taking.{byte_at}
 use Rattle.wire.specs.Sending.{sent}
@@ -96,14 +97,14 @@ integer-made (suc m) true h = le-leb (suc m) 32768 h
 integer-made m false h = le-leb m 32767 h
 
 -- what was read is an integer, reading went forward and stayed within, and its own spelling is no longer than what was read
-pub record Shown (kept : Remembered) (s : List ℕ) (at : ℕ) (r : Read ℤ) : Type 0 where
+pub record Shown (kept : Remembered) (s : List ℕ) (at : ℕ) (r : Taken ℤ) : Type 0 where
   pub writable : is_integer r.value ≡ true
   pub shortest : at + length (sent kept (spell r.value)) ≤ r.next
   pub forward : at < r.next
   pub within : r.next ≤ length s
 
 module _ (kept : Remembered) (s : List ℕ) (at : ℕ) where
-  abbrev Good : Answer (Read ℤ) → Type 0
+  abbrev Good : Answer (Taken ℤ) → Type 0
   Good = Done (Shown kept s at)
 
   in-range : (m : ℕ) (t : Bool) (p n : ℕ) → at + cost kept (spell_of m t) ≤ n → at < n → n ≤ length s → Good (in_range m t p n)
@@ -118,7 +119,7 @@ module _ (kept : Remembered) (s : List ℕ) (at : ℕ) where
       (λ e. not_done (Shown kept s at) 4 p)
 
   -- behind high bytes of value h, which cost no more than was read of them up to from: the low byte
-  low : (h from : ℕ) (b : Read ℕ) → at + cost kept (highs_of h) ≤ from → byte_at kept s from ≡ done b → Good (in_range (h * 16 + b.value % 16) (ltb b.value 48) b.place b.next)
+  low : (h from : ℕ) (b : Taken ℕ) → at + cost kept (highs_of h) ≤ from → byte_at kept s from ≡ done b → Good (in_range (h * 16 + b.value % 16) (ltb b.value 48) b.place b.next)
   low h from b f e =
       let t = took kept s from e in
       let m = h * 16 + b.value % 16 in
@@ -152,16 +153,16 @@ module _ (kept : Remembered) (s : List ℕ) (at : ℕ) where
       before 1 0 at (omega arith) none
       (λ h from l f. before 0 h from (omega arith) f (λ g next i. third g next))
 
-pub integer-shown : (kept : Remembered) (s : List ℕ) (at : ℕ) {r : Read ℤ} → integer_at kept s at ≡ done r → Shown kept s at r
+pub integer-shown : (kept : Remembered) (s : List ℕ) (at : ℕ) {r : Taken ℤ} → integer_at kept s at ≡ done r → Shown kept s at r
 integer-shown kept s at e = done-of (Shown kept s at) (first kept s at) e
 
 -- whatever reads as a value took at least as many bytes as the writer gives
-pub integer-shortest : (kept : Remembered) (s : List ℕ) (at : ℕ) {r : Read ℤ} → integer_at kept s at ≡ done r → at + length (sent kept (spell r.value)) ≤ r.next
+pub integer-shortest : (kept : Remembered) (s : List ℕ) (at : ℕ) {r : Taken ℤ} → integer_at kept s at ≡ done r → at + length (sent kept (spell r.value)) ≤ r.next
 integer-shortest kept s at e = (integer-shown kept s at e).shortest
 
 -- ---- counts
 
-pub record Counted (kept : Remembered) (s : List ℕ) (at : ℕ) (r : Read ℕ) : Type 0 where
+pub record Counted (kept : Remembered) (s : List ℕ) (at : ℕ) (r : Taken ℕ) : Type 0 where
   pub writable : r.value ≤ 256
   pub shortest : at + length (sent kept (spell (pos r.value))) ≤ r.next
   pub forward : at < r.next
@@ -172,7 +173,7 @@ as_spelled : (kept : Remembered) (v : ℤ) (at n : ℕ) → is_negative v ≡ fa
 as_spelled kept (pos c) at n e h = h
 as_spelled kept (negsuc c) at n e h = let k : ◌≡◌ {A = ℕ} 0 1 = cc in absurd (zero_one k)
 
-pub count-shown : (kept : Remembered) (s : List ℕ) (at : ℕ) {r : Read ℕ} → count_at kept s at ≡ done r → Counted kept s at r
+pub count-shown : (kept : Remembered) (s : List ℕ) (at : ℕ) {r : Taken ℕ} → count_at kept s at ≡ done r → Counted kept s at r
 unfolding count_in
 count-shown kept s at e = done-of (Counted kept s at) shown e
   where

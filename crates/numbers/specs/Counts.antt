@@ -2,7 +2,8 @@
 use Rattle.std.specs.Prelude.{ℕ, List, leb, ℤ, pos, nat_abs}
 use Rattle.memory.specs.declared.Remembered.{Remembered}
 use Rattle.refusals.specs.Refusals.{number_of}
-use Rattle.refusals.specs.Answers.{Answer, done, refused, Read, then, pick}
+use Rattle.refusals.specs.declared.Taken.{Taken}
+use Rattle.refusals.specs.Answers.{Answer, done, refused, then, pick}
 use Rattle.signs.specs.Signs.{is_negative}
 use Rattle.ranges.specs.Ranges.{most_entries}
 use Rattle.wire.specs.Sending.{sent, write_if}
@@ -11,12 +12,12 @@ use Rattle.numbers.specs.declared.CountRead.{CountRead}
 use Rattle.numbers.specs.declared.CountRead.TheVariants.{Count, Refused}
 
 -- what the answer says
-unfoldable pub count_of : CountRead → Answer (Read ℕ)
+unfoldable pub count_of : CountRead → Answer (Taken ℕ)
 count_of (Count c) = done (record { value = c.value; place = c.place; next = c.next })
 count_of (Refused e p) = refused (number_of e) p
 
 -- an integer that was read, as a count of at most most: "count negative or above 256 (place: its low byte)"
-abbrev pub as_count : ℕ → Read ℤ → Answer (Read ℕ)
+abbrev pub as_count : ℕ → Taken ℤ → Answer (Taken ℕ)
 as_count most i =
     pick (is_negative i.value)
     (refused 5 i.place)
@@ -25,10 +26,10 @@ as_count most i =
     (refused 5 i.place))
 
 -- "at one byte, 4 before 5"
-unfoldable pub count_in : ℕ → Answer (Read ℤ) → Answer (Read ℕ)
+unfoldable pub count_in : ℕ → Answer (Taken ℤ) → Answer (Taken ℕ)
 count_in most i = then i (as_count most)
 
-abbrev pub count_at : Remembered → List ℕ → ℕ → Answer (Read ℕ)
+abbrev pub count_at : Remembered → List ℕ → ℕ → Answer (Taken ℕ)
 count_at kept s at = count_in most_entries (integer_at kept s at)
 
 abbrev pub write_count : Remembered → ℕ → ℕ → ℕ → Answer ℕ

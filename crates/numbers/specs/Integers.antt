@@ -3,7 +3,8 @@
 use Rattle.std.specs.Prelude.{ℕ, suc, zero, ◌+◌, ◌*◌, ◌/◌, ◌%◌, List, [], ◌∷◌, ◌++◌, Bool, true, false, ltb, leb, eqb, ℤ, nat_abs}
 use Rattle.memory.specs.declared.Remembered.{Remembered}
 use Rattle.refusals.specs.Refusals.{number_of}
-use Rattle.refusals.specs.Answers.{Answer, done, refused, Read, then, pick}
+use Rattle.refusals.specs.declared.Taken.{Taken}
+use Rattle.refusals.specs.Answers.{Answer, done, refused, then, pick}
 use Rattle.signs.specs.Signs.{signed_of, is_negative, most_magnitude, is_integer}
 use Rattle.wire.specs.Taking.{byte_at}
 use Rattle.wire.specs.Sending.{sent, write_if}
@@ -11,23 +12,23 @@ use Rattle.numbers.specs.declared.IntegerRead.{IntegerRead}
 use Rattle.numbers.specs.declared.IntegerRead.TheVariants.{Integer, Refused}
 
 -- what the answer says
-unfoldable pub integer_of : IntegerRead → Answer (Read ℤ)
+unfoldable pub integer_of : IntegerRead → Answer (Taken ℤ)
 integer_of (Integer i) = done (record { value = i.value; place = i.place; next = i.next })
 integer_of (Refused e p) = refused (number_of e) p
 
 -- ---- reading
 
 -- "integer out of range (place: its low byte)"
-abbrev pub in_range : ℕ → Bool → ℕ → ℕ → Answer (Read ℤ)
+abbrev pub in_range : ℕ → Bool → ℕ → ℕ → Answer (Taken ℤ)
 in_range m negative p n =
     pick (leb m (most_magnitude negative)) (done (record { value = signed_of m negative; place = p; next = n })) (refused 4 p)
 
 -- the low byte b, at p, after high bytes of value h
-abbrev pub low_byte : ℕ → ℕ → ℕ → ℕ → Answer (Read ℤ)
+abbrev pub low_byte : ℕ → ℕ → ℕ → ℕ → Answer (Taken ℤ)
 low_byte h b p n = in_range (h * 16 + b % 16) (ltb b 48) p n
 
 -- up to k high bytes and the low byte, after high bytes of value h; "third high byte (place: that byte)"
-unfoldable pub integer_from : Remembered → ℕ → ℕ → List ℕ → ℕ → Answer (Read ℤ)
+unfoldable pub integer_from : Remembered → ℕ → ℕ → List ℕ → ℕ → Answer (Taken ℤ)
 integer_from kept zero h s at =
     then (byte_at kept s at)
     (λ b. pick (ltb b.value 64) (low_byte h b.value b.place b.next) (refused 4 b.place))
@@ -35,7 +36,7 @@ integer_from kept (suc k) h s at =
     then (byte_at kept s at)
     (λ b. pick (ltb b.value 64) (low_byte h b.value b.place b.next) (integer_from kept k (h * 64 + b.value % 64) s b.next))
 
-abbrev pub integer_at : Remembered → List ℕ → ℕ → Answer (Read ℤ)
+abbrev pub integer_at : Remembered → List ℕ → ℕ → Answer (Taken ℤ)
 integer_at kept s at = integer_from kept 2 0 s at
 
 -- ---- writing

@@ -13,7 +13,8 @@ use lib.IntN.{ℤ, pos}
 use Rattle.memory.specs.declared.Remembered.{Remembered}
 use Rattle.refusals.specs.declared.Refusal.{Refusal}
 use Rattle.refusals.specs.Refusals.{number_of}
-use Rattle.refusals.specs.Answers.{Answer, done, refused, Read, then, pick, every, value_or, ends_after, all_after}
+use Rattle.refusals.specs.declared.Taken.{Taken}
+use Rattle.refusals.specs.Answers.{Answer, done, refused, then, pick, every, value_or, ends_after, all_after}
 use Rattle.refusals.proofs.Cases.{by_then, and_left, and_right, Done, done-of, done-map, is-done, not_done}
 use Rattle.refusals.proofs.Many as many
 use Rattle.wire.specs.declared.TakenByte.{TakenByte}
@@ -49,11 +50,11 @@ module _ (kept : Remembered) (s : List ℕ) (at : ℕ) where
   unfolding entry_at integer_of
   character_no e g = rw (none_given kept s at e g)
 
-  pub integer-entry : {e : Entry} {q : Answer (Read ℤ)} → e ≡ AnInteger → q ≡ integer_at kept s at → q ≡ entry_at e kept s at
+  pub integer-entry : {e : Entry} {q : Answer (Taken ℤ)} → e ≡ AnInteger → q ≡ integer_at kept s at → q ≡ entry_at e kept s at
   unfolding entry_at
   integer-entry g j = rw g j
 
-  pub character_entry : {e : Entry} {q : Answer (Read ℤ)} → e ≡ ACharacter → q ≡ entry_at ACharacter kept s at → q ≡ entry_at e kept s at
+  pub character_entry : {e : Entry} {q : Answer (Taken ℤ)} → e ≡ ACharacter → q ≡ entry_at ACharacter kept s at → q ≡ entry_at e kept s at
   character_entry g j = rw g j
 
 pub ruleset entries = (character_is, character_no, integer-entry, character_entry)
@@ -170,7 +171,7 @@ pub ruleset handings = (handing_none, handing_more, handing_end)
 -- ---- reading them into an array, and handing them over from it
 
 -- readings that come to their end gave as many values
-pub all_read : {A : Type 0} (one : ℕ → Answer (Read A)) (k at : ℕ) → Done (λ n. length (all_after one k at) ≡ k) (ends_after one k at)
+pub all_read : {A : Type 0} (one : ℕ → Answer (Taken A)) (k at : ℕ) → Done (λ n. length (all_after one k at) ≡ k) (ends_after one k at)
 unfolding ends_after all_after
 all_read one zero at = is-done (λ n. length (all_after one 0 at) ≡ 0) refl
 all_read one (suc k) at =

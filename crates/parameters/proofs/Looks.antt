@@ -10,7 +10,8 @@ use Rattle.memory.specs.declared.Remembered.{Remembered}
 use Rattle.memory.specs.Memory.{remember}
 use Rattle.refusals.specs.declared.Refusal.{Refusal}
 use Rattle.refusals.specs.Refusals.{number_of}
-use Rattle.refusals.specs.Answers.{Answer, done, refused, Read, then, all_after}
+use Rattle.refusals.specs.declared.Taken.{Taken}
+use Rattle.refusals.specs.Answers.{Answer, done, refused, then, all_after}
 use Rattle.refusals.proofs.Cases.{by_then}
 use Rattle.numbers.specs.declared.TakenInteger.{TakenInteger}
 use Rattle.numbers.specs.declared.IntegerRead.{IntegerRead}
@@ -63,30 +64,30 @@ before v g = done (record { values = v ∷ g.values; next = g.next; kept = g.kep
 abbrev before2 : Value → Value → Fixed → Answer Fixed
 before2 v w g = done (record { values = v ∷ w ∷ g.values; next = g.next; kept = g.kept })
 
-abbrev both_entries : ℤ → Read ℤ → Answer TwoEntries
+abbrev both_entries : ℤ → Taken ℤ → Answer TwoEntries
 both_entries v i = done (record { one = v; two = i.value; next = i.next })
 
 abbrev two_then : Entry → (ℕ → Answer Fixed) → TwoEntries → Answer Fixed
 two_then e rest r = then (rest r.next) (before2 (number e r.one) (number e r.two))
 
-abbrev alone : Entry → Remembered → Read ℤ → Answer Fixed
+abbrev alone : Entry → Remembered → Taken ℤ → Answer Fixed
 alone e kept i = done (record { values = number e i.value ∷ []; next = i.next; kept = kept })
 
 abbrev joined : (Remembered → ℕ → Answer Fixed) → Fixed → Answer Fixed
 joined rest f = then (rest f.kept f.next) (λ g. done (record { values = f.values ++ g.values; next = g.next; kept = g.kept }))
 
-abbrev part_then : Entry → Remembered → Answer (Read ℤ) → (Remembered → ℕ → Answer Fixed) → Answer Fixed
+abbrev part_then : Entry → Remembered → Answer (Taken ℤ) → (Remembered → ℕ → Answer Fixed) → Answer Fixed
 part_then e kept a rest = then (then a (alone e kept)) (joined rest)
 
 third_part : (v w : Value) (a : Answer Fixed) → then (then a (before w)) (before v) ≡ then a (before2 v w)
 third_part v w (done g) = refl
 third_part v w (refused x p) = refl
 
-second-part : (e : Entry) (kept : Remembered) (v : ℤ) (b : Answer (Read ℤ)) (rest : Remembered → ℕ → Answer Fixed) → then (part_then e kept b rest) (before (number e v)) ≡ then (then b (both_entries v)) (two_then e (rest kept))
+second-part : (e : Entry) (kept : Remembered) (v : ℤ) (b : Answer (Taken ℤ)) (rest : Remembered → ℕ → Answer Fixed) → then (part_then e kept b rest) (before (number e v)) ≡ then (then b (both_entries v)) (two_then e (rest kept))
 second-part e kept v (refused x p) rest = refl
 second-part e kept v (done i) rest = third_part (number e v) (number e i.value) (rest kept i.next)
 
-first_part : (e : Entry) (kept : Remembered) (a : Answer (Read ℤ)) (next : Remembered → ℕ → Answer (Read ℤ)) (rest : Remembered → ℕ → Answer Fixed) → part_then e kept a (λ k n. part_then e k (next k n) rest) ≡ then (then a (λ i. then (next kept i.next) (both_entries i.value))) (two_then e (rest kept))
+first_part : (e : Entry) (kept : Remembered) (a : Answer (Taken ℤ)) (next : Remembered → ℕ → Answer (Taken ℤ)) (rest : Remembered → ℕ → Answer Fixed) → part_then e kept a (λ k n. part_then e k (next k n) rest) ≡ then (then a (λ i. then (next kept i.next) (both_entries i.value))) (two_then e (rest kept))
 first_part e kept (refused x p) next rest = refl
 first_part e kept (done i) next rest = second-part e kept i.value (next kept i.next) rest
 

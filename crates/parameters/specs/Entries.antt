@@ -3,7 +3,8 @@ use Rattle.std.specs.Prelude.{ℕ, ◌+◌, Bool, ◌&&◌, List, leb, length, t
 use Rattle.std.proofs.lemmas.List.Edits.{sets}
 use Rattle.memory.specs.declared.Remembered.{Remembered}
 use Rattle.refusals.specs.Refusals.{number_of}
-use Rattle.refusals.specs.Answers.{Answer, done, refused, Read, then, pick, every, value_or, ends_after, all_after}
+use Rattle.refusals.specs.declared.Taken.{Taken}
+use Rattle.refusals.specs.Answers.{Answer, done, refused, then, pick, every, value_or, ends_after, all_after}
 use Rattle.wire.specs.Taking.{byte_at, is_itself}
 use Rattle.numbers.specs.Integers.{integer_at}
 use Rattle.numbers.specs.Counts.{count_at}
@@ -14,11 +15,11 @@ use Rattle.parameters.specs.declared.EntriesEnd.TheVariants.{End}
 use Rattle.parameters.specs.declared.RunRead.{RunRead}
 use Rattle.parameters.specs.declared.RunRead.TheVariants.{Counted}
 
-abbrev pub as_entry : Read ℕ → Answer (Read ℤ)
+abbrev pub as_entry : Taken ℕ → Answer (Taken ℤ)
 as_entry b = done (record { value = pos b.value; place = b.place; next = b.next })
 
 -- one entry: an integer, or a character as a number
-unfoldable pub entry_at : Entry → Remembered → List ℕ → ℕ → Answer (Read ℤ)
+unfoldable pub entry_at : Entry → Remembered → List ℕ → ℕ → Answer (Taken ℤ)
 entry_at AnInteger kept s at = integer_at kept s at
 entry_at ACharacter kept s at = then (byte_at kept s at) as_entry
 

@@ -8,15 +8,16 @@ use lib.Dec.{ltb}
 use lib.ListN.{length}
 use Rattle.memory.specs.declared.Point.{Point}
 use Rattle.memory.specs.declared.Remembered.{Remembered}
-use Rattle.refusals.specs.Answers.{Answer, done, Read}
+use Rattle.refusals.specs.declared.Taken.{Taken}
+use Rattle.refusals.specs.Answers.{Answer, done}
 use Rattle.refusals.proofs.Cases.{by_pick, by_then, Done, not_done}
 use Rattle.wire.specs.Taking.{byte_at}
 use Rattle.wire.specs.Sending.{sent}
 use Rattle.wire.proofs.Feeds.{Took, took, took_least}
 use Rattle.points.specs.Reading.{by_kind}
 
-module _ (kept : Remembered) (s : List ℕ) (at : ℕ) (hi lo upper : Read ℕ → Answer (Read Point)) where
-  module _ {r : Read ℕ} (e : byte_at kept s at ≡ done r) where
+module _ (kept : Remembered) (s : List ℕ) (at : ℕ) (hi lo upper : Taken ℕ → Answer (Taken Point)) where
+  module _ {r : Taken ℕ} (e : byte_at kept s at ≡ done r) where
     pub is-hi : r.value < 64 → by_kind kept s at hi lo upper ≡ hi r
     unfolding by_kind
     is-hi l = rw (e, lt-ltb r.value 64 l)
@@ -30,11 +31,11 @@ module _ (kept : Remembered) (s : List ℕ) (at : ℕ) (hi lo upper : Read ℕ �
     is-upper l = rw (e, le-ltb r.value 64 (omega arith), le-ltb r.value 96 l)
 
   -- what a byte that was taken cost at least
-  abbrev Cost : Read ℕ → Type 0
+  abbrev Cost : Taken ℕ → Type 0
   Cost r = at + length (sent kept (r.value ∷ [])) ≤ r.next
 
   -- what holds of each kind of byte that was taken holds of the answer
-  pub by-kind : (P : Read Point → Type 0) → ((r : Read ℕ) → Took s at r → Cost r → r.value < 64 → Done P (hi r)) → ((r : Read ℕ) → Took s at r → Cost r → 64 ≤ r.value → r.value < 96 → Done P (lo r)) → ((r : Read ℕ) → Took s at r → Cost r → 96 ≤ r.value → Done P (upper r)) → Done P (by_kind kept s at hi lo upper)
+  pub by-kind : (P : Taken Point → Type 0) → ((r : Taken ℕ) → Took s at r → Cost r → r.value < 64 → Done P (hi r)) → ((r : Taken ℕ) → Took s at r → Cost r → 64 ≤ r.value → r.value < 96 → Done P (lo r)) → ((r : Taken ℕ) → Took s at r → Cost r → 96 ≤ r.value → Done P (upper r)) → Done P (by_kind kept s at hi lo upper)
   unfolding by_kind
   by-kind P f g h =
       by_then (Done P) (byte_at kept s at) _

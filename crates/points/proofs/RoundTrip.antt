@@ -10,7 +10,8 @@ use lib.ListN.{length}
 use Rattle.memory.specs.declared.Point.{Point}
 use Rattle.memory.specs.declared.Remembered.{Remembered}
 use Rattle.memory.specs.Memory.{inside}
-use Rattle.refusals.specs.Answers.{Answer, Read, Reads}
+use Rattle.refusals.specs.declared.Taken.{Taken}
+use Rattle.refusals.specs.Answers.{Answer, Reads}
 use Rattle.wire.specs.Sending.{sent}
 use Rattle.wire.proofs.Feeds.{Feeds, Plain, Stands, stands-between, sent-taken}
 use Rattle.points.specs.declared.PointBytes.{PointBytes}
@@ -68,11 +69,11 @@ parts y u l t b = part y b.hiy ++ (part u b.extra ++ (part (l && (u && t)) b.loy
 -- ---- the bytes of the point b, taken one by one; a are those in force
 
 module _ (kept : Remembered) (s : List ℕ) (b : PointBytes) (k : Kinds b) (n : ℕ) where
-  abbrev Back : Answer (Read Point) → Type 0
+  abbrev Back : Answer (Taken Point) → Type 0
   Back = Reads (coordinates b) n
 
   -- LoX ends the point in every state
-  fed_end : (a : PointBytes) (at : ℕ) (hi upper : Read ℕ → Answer (Read Point)) → a.hiy ≡ b.hiy → a.extra ≡ b.extra → a.loy ≡ b.loy → a.hix ≡ b.hix → Feeds kept s at (b.lox ∷ []) n → Back (by_kind kept s at hi (lo_x a) upper)
+  fed_end : (a : PointBytes) (at : ℕ) (hi upper : Taken ℕ → Answer (Taken Point)) → a.hiy ≡ b.hiy → a.extra ≡ b.extra → a.loy ≡ b.loy → a.hix ≡ b.hix → Feeds kept s at (b.lox ∷ []) n → Back (by_kind kept s at hi (lo_x a) upper)
   unfolding Reads ends_at
   fed_end a at hi upper e f g h (p, (m, (x, z))) =
       rw (is-lo kept s at hi (lo_x a) upper x k.of_lox.low k.of_lox.high) (same_point a b e f g h, z)
@@ -102,8 +103,8 @@ module _ (kept : Remembered) (s : List ℕ) (b : PointBytes) (k : Kinds b) (n : 
       rw (is-upper kept s at _ _ _ x k.of_loy.low) (fed_x t (with_lo_y (with_extra a b.extra) b.loy) m e refl refl h z)
 
   -- LoY alone, or Extra and LoY, where both may come
-  module _ (a : PointBytes) (at : ℕ) (hi : Read ℕ → Answer (Read Point)) (e : a.hiy ≡ b.hiy) where
-    abbrev here : Answer (Read Point)
+  module _ (a : PointBytes) (at : ℕ) (hi : Taken ℕ → Answer (Taken Point)) (e : a.hiy ≡ b.hiy) where
+    abbrev here : Answer (Taken Point)
     here = by_kind kept s at hi (lo_x a) (λ c. after_upper kept a c.value s c.next)
 
     upper_lo : (t : Bool) → a.extra ≡ b.extra → (t ≡ true → a.hix ≡ b.hix) → Feeds kept s at (b.loy ∷ (part t b.hix ++ (b.lox ∷ []))) n → Back here

@@ -10,7 +10,8 @@ use lib.ListN.{length, length-append}
 use Rattle.memory.specs.declared.Point.{Point}
 use Rattle.memory.specs.declared.Remembered.{Remembered}
 use Rattle.memory.specs.Memory.{inside}
-use Rattle.refusals.specs.Answers.{Answer, done, Read}
+use Rattle.refusals.specs.declared.Taken.{Taken}
+use Rattle.refusals.specs.Answers.{Answer, done}
 use Rattle.refusals.proofs.Cases.{by_pick, Done, done-of, is-done, not_done, bool_apart}
 use Rattle.wire.specs.Sending.{sent}
 use Rattle.wire.proofs.Sendings.{sent-append}
@@ -143,7 +144,7 @@ module _ (c : PointBytes) (k : Kinds c) where
 -- ---- each state
 
 -- what was read can be written, reading went forward and stayed within, and the point's own spelling is no longer
-pub record Shown (kept : Remembered) (s : List ℕ) (at : ℕ) (r : Read Point) : Type 0 where
+pub record Shown (kept : Remembered) (s : List ℕ) (at : ℕ) (r : Taken Point) : Type 0 where
   pub writable : inside r.value ≡ true
   pub shortest : at + length (sent kept (spell_point kept.point r.value)) ≤ r.next
   pub forward : at < r.next
@@ -186,14 +187,14 @@ module _ (kept : Remembered) (s : List ℕ) (start : ℕ) where
   abbrev a : PointBytes
   a = bytes_of kept.point
 
-  abbrev Good : Answer (Read Point) → Type 0
+  abbrev Good : Answer (Taken Point) → Type 0
   Good = Done (Shown kept s start)
 
-  none : (r : Read ℕ) → Good (not_allowed r)
+  none : (r : Taken ℕ) → Good (not_allowed r)
   none r = not_done (Shown kept s start) 3 r.place
 
   -- LoX ends the point
-  whole : (y u l t : Bool) (c : PointBytes) (at : ℕ) (r : Read ℕ) → Kinds c → Same y u l t a c → start + size kept y u l t c ≤ at → Took s at r → at + one kept r.value ≤ r.next → 64 ≤ r.value → r.value < 96 → Good (lo_x c r)
+  whole : (y u l t : Bool) (c : PointBytes) (at : ℕ) (r : Taken ℕ) → Kinds c → Same y u l t a c → start + size kept y u l t c ≤ at → Took s at r → at + one kept r.value ≤ r.next → 64 ≤ r.value → r.value < 96 → Good (lo_x c r)
   unfolding ends_at
   whole y u l t c at r k q h f paid g m =
       let d = with_lo_x c r.value in
@@ -273,9 +274,9 @@ module _ (kept : Remembered) (s : List ℕ) (start : ℕ) where
       (λ t. from-good (kinds_of kept.point (insides kept.point t)))
       (λ t. not_done (Shown kept s start) 8 0)
 
-pub point-shown : (kept : Remembered) (s : List ℕ) (at : ℕ) {r : Read Point} → point_at kept s at ≡ done r → Shown kept s at r
+pub point-shown : (kept : Remembered) (s : List ℕ) (at : ℕ) {r : Taken Point} → point_at kept s at ≡ done r → Shown kept s at r
 point-shown kept s at e = done-of (Shown kept s at) (point-good kept s at) e
 
 -- whatever reads as a point from a remembered point took at least as many bytes as the writer gives from there
-pub point-shortest : (kept : Remembered) (s : List ℕ) (at : ℕ) {r : Read Point} → point_at kept s at ≡ done r → at + length (sent kept (spell_point kept.point r.value)) ≤ r.next
+pub point-shortest : (kept : Remembered) (s : List ℕ) (at : ℕ) {r : Taken Point} → point_at kept s at ≡ done r → at + length (sent kept (spell_point kept.point r.value)) ≤ r.next
 point-shortest kept s at e = (point-shown kept s at e).shortest

@@ -11,7 +11,8 @@ use Rattle.memory.specs.declared.Remembered.{Remembered}
 use Rattle.memory.specs.Memory.{inside}
 use Rattle.refusals.specs.declared.Refusal.{Refusal}
 use Rattle.refusals.specs.declared.Refusal.TheVariants.{ByteNotAllowed, NotValid}
-use Rattle.refusals.specs.Answers.{Answer, Read, refused}
+use Rattle.refusals.specs.declared.Taken.{Taken}
+use Rattle.refusals.specs.Answers.{Answer, refused}
 use Rattle.refusals.proofs.Cases.{and_left, and_right}
 use Rattle.wire.specs.declared.ByteRead.{ByteRead}
 use Rattle.wire.specs.declared.TakenByte.{TakenByte}
@@ -21,11 +22,11 @@ use Rattle.points.specs.declared.PointBytes.{PointBytes}
 use Rattle.points.specs.Layout.{Inside, bytes_of, coordinates}
 use Rattle.points.specs.Reading.{by_kind, ends_at, with_hi_y, with_extra, with_lo_y, with_lo_x, point_of, after_lo_y, after_upper, after_hi_y, point_from, point_at}
 
-abbrev read_of : TakenByte → Read ℕ
+abbrev read_of : TakenByte → Taken ℕ
 read_of b = record { value = b.value; place = b.place; next = b.next }
 
-module _ (kept : Remembered) (s : List ℕ) (at : ℕ) {r : ByteRead} (e : byte_of r ≡ byte_at kept s at) (hi lo upper : Read ℕ → Answer (Read Point)) where
-  module _ {b : TakenByte} (g : r ≡ ByteRead.Byte b) {q : Answer (Read Point)} where
+module _ (kept : Remembered) (s : List ℕ) (at : ℕ) {r : ByteRead} (e : byte_of r ≡ byte_at kept s at) (hi lo upper : Taken ℕ → Answer (Taken Point)) where
+  module _ {b : TakenByte} (g : r ≡ ByteRead.Byte b) {q : Answer (Taken Point)} where
     pub kind-hi : b.value < 64 → q ≡ hi (read_of b) → q ≡ by_kind kept s at hi lo upper
     unfolding by_kind byte_of
     kind-hi l j = rw (← e, g, lt-ltb b.value 64 l) j
@@ -61,7 +62,7 @@ module _ (kept : Remembered) (s : List ℕ) (at : ℕ) {r : ByteRead} (e : byte_
   unfolding point_from after_hi_y by_kind byte_of
   no_byte_yet g = rw (← e, g)
 
-pub started : (kept : Remembered) (b : PointBytes) (s : List ℕ) (at : ℕ) {rest q : Answer (Read Point)} → rest ≡ point_from kept b s at → q ≡ rest → q ≡ point_from kept b s at
+pub started : (kept : Remembered) (b : PointBytes) (s : List ℕ) (at : ℕ) {rest q : Answer (Taken Point)} → rest ≡ point_from kept b s at → q ≡ rest → q ≡ point_from kept b s at
 started kept b s at e j = j ∙ e
 
 -- ---- Extra and LoY, or LoY alone: the rest is read alike
@@ -81,7 +82,7 @@ module _ (kept : Remembered) (s : List ℕ) (at : ℕ) {r : ByteRead} (e : byte_
   unfolding after_upper after_lo_y by_kind byte_of
   no_byte_behind g = rw (← e, g)
 
-pub read-on : (kept : Remembered) (b : PointBytes) (u : ℕ) (s : List ℕ) (at : ℕ) {rest q : Answer (Read Point)} → rest ≡ after_upper kept b u s at → q ≡ rest → q ≡ after_upper kept b u s at
+pub read-on : (kept : Remembered) (b : PointBytes) (u : ℕ) (s : List ℕ) (at : ℕ) {rest q : Answer (Taken Point)} → rest ≡ after_upper kept b u s at → q ≡ rest → q ≡ after_upper kept b u s at
 read-on kept b u s at e j = j ∙ e
 
 -- ---- the bytes of a point, and the point of its bytes
@@ -116,7 +117,7 @@ pub tested_second : (p q : Point) {t : Bool} → t ≡ inside p && inside q → 
 tested_second p q e t = insides q (and_right (inside p) (inside q) (sym e ∙ t))
 
 module _ (kept : Remembered) (s : List ℕ) (at : ℕ) {t : Bool} (e : t ≡ inside kept.point) where
-  pub from_last : {b : PointBytes} {q : Answer (Read Point)} → t ≡ true → b ≡ bytes_of kept.point → q ≡ point_from kept b s at → q ≡ point_at kept s at
+  pub from_last : {b : PointBytes} {q : Answer (Taken Point)} → t ≡ true → b ≡ bytes_of kept.point → q ≡ point_from kept b s at → q ≡ point_at kept s at
   unfolding point_at
   from_last g k j = rw (← e, g, ← k) j
 

@@ -1,14 +1,17 @@
 -- Whether a number is within a range, as the code tests it, and what it is then.
-use Prim.Native.Nat.{ℕ, ◌≤◌, ◌<◌}
+use Prim.Native.Nat.{ℕ, ◌+◌, ◌≤◌, ◌<◌}
 use mathlib.Core.Path.{◌≡◌, refl, sym, ◌∙◌}
 use mathlib.Core.Bool.{Bool, true, false, ◌&&◌}
 use borrow.Author.Tests.{le-leb, lt-leb, leb-true}
+use mathlib.Core.List.{List}
 use lib.Dec.{leb}
+use lib.ListN.{length, get_or}
 use lib.IntN.{ℤ, pos, negsuc, nat_abs}
 use mir.Syntax.{w32}
 use mir.Val.{SFits, to_z, of_z}
 use mir.Facts.{to_z-of_z}
 use Rattle.refusals.proofs.Cases.{zero_one, and_left, and_right}
+use Rattle.refusals.proofs.Many.{Checking, checking_next}
 use Rattle.signs.specs.Signs.{is_negative}
 use Rattle.ranges.specs.Ranges.{within}
 
@@ -50,3 +53,8 @@ pub ruleset ranges = (minus, too_low, not_low)
 -- a signed argument, handed on to a test of one
 pub handed-on : (least most : ℕ) (v : ℤ) {b : Bool} → SFits w32 v → b ≡ within least most (to_z w32 (of_z w32 v)) → b ≡ within least most v
 handed-on least most v f e = rw (to_z-of_z f) at e
+
+-- the same for an entry of a list
+module _ (least most : ℕ) (list : List ℤ) (i : ℕ) where
+  pub entry_next : {good b : Bool} → Checking (within least most) list i good → i < length list → SFits w32 (get_or list i (pos 0)) → b ≡ within least most (to_z w32 (of_z w32 (get_or list i (pos 0)))) → Checking (within least most) list (i + 1) (good && b)
+  entry_next f h fits e = checking_next (within least most) list (pos 0) i f h (handed-on least most (get_or list i (pos 0)) fits e)

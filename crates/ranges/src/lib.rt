@@ -21,15 +21,14 @@ pub fn is_within(least: u32, most: u32, v: i32) -> bool
     m <= most
 }
 
+#[tactic(auto, using(refusals::proofs::Many::checkings, crate::proofs::Entries::entry_next))]
 pub fn are_within(least: u32, most: u32, list: &[i32]) -> bool
     ensures { result ≡ every (within least most) list.now }
 {
-    let mut i = 0;
+    // with no way out of the middle several entries are tested at once
     let mut good = true;
-    while i < list.len() {
-        let v = list[i];
-        good = refusals::both(good, is_within(least, most, v));
-        i = i + 1;
+    for v in list {
+        good = good & is_within(least, most, *v);
     }
     good
 }

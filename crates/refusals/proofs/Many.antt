@@ -7,7 +7,8 @@ use native.Mathlib.Omega.{arith}
 use native.Mathlib.Numerals.{add-one}
 use lib.ListN.{length, get_or, drop, set, length-set, drop_of_length-le}
 use lib.Seq.{sets, set_out, drop-cons}
-use Rattle.refusals.specs.Answers.{Answer, done, refused, Read, ends_after, all_after, every}
+use Rattle.refusals.specs.declared.Taken.{Taken}
+use Rattle.refusals.specs.Answers.{Answer, done, refused, ends_after, all_after, every}
 use Rattle.refusals.proofs.Cases.{and_left, and_right, and_true, and_assoc}
 
 -- nothing is stored past the end
@@ -22,7 +23,7 @@ sets_append (x ∷ a) b l at =
     let z : at + length (x ∷ a) ≡ suc at + length a = omega arith in
     ap (λ (k : ℕ). sets (sets (set l at x) (suc at) a) k b) z ∙ sets_append a b (set l at x) (suc at)
 
-module _ {A : Type 0} (one : ℕ → Answer (Read A)) where
+module _ {A : Type 0} (one : ℕ → Answer (Taken A)) where
   -- ---- passing over
 
   unrolled : (k at : ℕ) {q : Answer ℕ} → 0 < k → ends_after one k at ≡ q → ends_after one (suc (k - 1)) at ≡ q
@@ -33,7 +34,7 @@ module _ {A : Type 0} (one : ℕ → Answer (Read A)) where
   passed_all zero at h j = j
   passed_all (suc k) at h j = absurd (omega arith)
 
-  pub passed_one : (k at : ℕ) {r : Read A} {q : Answer ℕ} → one at ≡ done r → 0 < k → ends_after one k at ≡ q → ends_after one (k - 1) r.next ≡ q
+  pub passed_one : (k at : ℕ) {r : Taken A} {q : Answer ℕ} → one at ≡ done r → 0 < k → ends_after one k at ≡ q → ends_after one (k - 1) r.next ≡ q
   unfolding ends_after
   passed_one k at e h j = rw e at (unrolled k at h j)
 
@@ -51,7 +52,7 @@ module _ {A : Type 0} (one : ℕ → Answer (Read A)) where
   pub filling_none : (at count : ℕ) (l : List A) → Filling at count l l 0 at
   filling_none at count l = let z : count - 0 ≡ count = omega arith in record { upto = omega arith; long = refl; whole = rw z }
 
-  cons_of : (k pos : ℕ) {r : Read A} → one pos ≡ done r → all_after one (suc k) pos ≡ r.value ∷ all_after one k r.next
+  cons_of : (k pos : ℕ) {r : Taken A} → one pos ≡ done r → all_after one (suc k) pos ≡ r.value ∷ all_after one k r.next
   unfolding all_after
   cons_of k pos e = rw e
 
@@ -60,7 +61,7 @@ module _ {A : Type 0} (one : ℕ → Answer (Read A)) where
   nil_of zero pos e = refl
   nil_of (suc k) pos e = rw e
 
-  pub filling_more : (at count : ℕ) (l₀ l : List A) (i pos : ℕ) {r : Read A} → Filling at count l₀ l i pos → i < count → one pos ≡ done r → Filling at count l₀ (set l i r.value) (i + 1) r.next
+  pub filling_more : (at count : ℕ) (l₀ l : List A) (i pos : ℕ) {r : Taken A} → Filling at count l₀ l i pos → i < count → one pos ≡ done r → Filling at count l₀ (set l i r.value) (i + 1) r.next
   filling_more at count l₀ l i pos {r} f h e =
       let z : count - i ≡ suc (count - (i + 1)) = omega arith in
       let d = cons_of (count - (i + 1)) pos e in
@@ -112,4 +113,8 @@ module _ {A : Type 0} (ok : A → Bool) (list : List A) where
         left = rw en (and_assoc good b (every ok (drop (i + 1) list))) ∙ sym (ap (λ t. good && t) here) ∙ f.left;
       }
 
-pub ruleset checkings = (checking_none, checking_more, checking_end)
+  -- the same in a `for` loop
+  pub checking_next : (d : A) (i : ℕ) {good b : Bool} → Checking ok list i good → i < length list → b ≡ ok (get_or list i d) → Checking ok list (i + 1) (good && b)
+  checking_next d i f h eb = checking_more d i (get_or list i d) f h refl eb refl
+
+pub ruleset checkings = (checking_none, checking_more, checking_next, checking_end)

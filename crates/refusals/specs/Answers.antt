@@ -1,9 +1,27 @@
 -- What a call gives back, as document 01 counts it: 0 and the call's values, or a refusal's number and its place.
-use Rattle.std.specs.Prelude.{ℕ, zero, suc, ◌+◌, ◌≡◌, Bool, true, false, ◌&&◌, List, [], ◌∷◌, drop}
+use Rattle.std.specs.Prelude.{ℕ, zero, suc, ◌+◌, ◌≡◌, Bool, true, false, ◌&&◌, List, [], ◌∷◌, drop, Result, Ok, Err}
+use Rattle.refusals.specs.declared.Refusal.{Refusal}
+use Rattle.refusals.specs.declared.RefusedAt.{RefusedAt}
+use Rattle.refusals.specs.declared.Taken.{Taken}
+use Rattle.refusals.specs.Refusals.{number_of}
 
 pub data Answer (A : Type 0) : Type 0 where
   done : A → Answer A
   refused : ℕ → ℕ → Answer A
+
+-- what a call says that may be refused; a reading refusal has a place, the others have none: "counts with a refusal are 0"
+unfoldable pub answer_at : {A : Type 0} → Result A RefusedAt → Answer A
+answer_at (Ok a) = done a
+answer_at (Err e) = refused (number_of e.refusal) e.place
+
+unfoldable pub answer_of : {A : Type 0} → Result A Refusal → Answer A
+answer_of (Ok a) = done a
+answer_of (Err e) = refused (number_of e) 0
+
+-- and its number alone: "0 means done"
+unfoldable pub refusal_of : {A : Type 0} → Result A Refusal → ℕ
+refusal_of (Ok a) = 0
+refusal_of (Err e) = number_of e
 
 -- "0 means done"
 unfoldable pub number : {A : Type 0} → Answer A → ℕ
@@ -19,12 +37,6 @@ value_or none value (refused e p) = none
 unfoldable pub place_of : {A : Type 0} → (next : A → ℕ) → Answer A → ℕ
 place_of next (done a) = next a
 place_of next (refused e p) = p
-
--- What a reading that is done gives: the value, the place of its last byte, and where reading goes on.
-pub record Read (A : Type 0) : Type 0 where
-  pub value : A
-  pub place : ℕ
-  pub next : ℕ
 
 -- the answer of the next step, where this one is done; a refusal is passed on as it stands
 abbrev pub then : {A B : Type 0} → Answer A → (A → Answer B) → Answer B
@@ -54,20 +66,20 @@ unfoldable pub past_front : (ok : ℕ → Bool) → List ℕ → ℕ → ℕ
 past_front ok s at = at + in_front ok (drop at s)
 
 -- k readings, one after the other: where they end, or the first refusal
-unfoldable pub ends_after : {A : Type 0} → (ℕ → Answer (Read A)) → ℕ → ℕ → Answer ℕ
+unfoldable pub ends_after : {A : Type 0} → (ℕ → Answer (Taken A)) → ℕ → ℕ → Answer ℕ
 ends_after one zero at = done at
 ends_after one (suc k) at = then (one at) (λ r. ends_after one k r.next)
 
-abbrev and_on : {A : Type 0} → Answer (Read A) → (ℕ → List A) → List A
+abbrev and_on : {A : Type 0} → Answer (Taken A) → (ℕ → List A) → List A
 and_on (done r) k = r.value ∷ k r.next
 and_on (refused e p) k = []
 
 -- and what they give
-unfoldable pub all_after : {A : Type 0} → (ℕ → Answer (Read A)) → ℕ → ℕ → List A
+unfoldable pub all_after : {A : Type 0} → (ℕ → Answer (Taken A)) → ℕ → ℕ → List A
 all_after one zero at = []
 all_after one (suc k) at = and_on (one at) (λ n. all_after one k n)
 
 -- the answer is that v was read and that reading goes on at n
-unfoldable pub Reads : {A : Type 0} → A → ℕ → Answer (Read A) → Type 0
+unfoldable pub Reads : {A : Type 0} → A → ℕ → Answer (Taken A) → Type 0
 Reads v n (done r) = (r.value ≡ v) × (r.next ≡ n)
 Reads v n (refused e p) = ⊥

@@ -1,10 +1,10 @@
-// The refusals of document 01 by name, the number of each ("Numbers the unit gives back"), and the joining of two tests.
+// The refusals of document 01 by name, the number of each ("Numbers the unit gives back"), and what a reading gives.
 #![tactic(auto)]
 
-ghost use Rattle.std.specs.Prelude.{◌≡◌, ◌&&◌};
+ghost use Rattle.std.specs.Prelude.{◌≡◌};
 ghost use Rattle.refusals.specs.Refusals.{number_of};
 
-#[derive(Clone, Copy)]
+#[derive(Clone, Copy, PartialEq, Eq)]
 pub enum Refusal {
     // 1: bytes end inside a command
     BytesEnd,
@@ -42,37 +42,54 @@ pub enum Refusal {
     BodyRefused,
 }
 
-// The number that document 01 gives the refusal.
-pub fn number(refusal: Refusal) -> u8
-    ensures { result ≡ number_of refusal }
-{
-    match refusal {
-        Refusal::BytesEnd => 1,
-        Refusal::UnknownCommand => 2,
-        Refusal::ByteNotAllowed => 3,
-        Refusal::IntegerOutside => 4,
-        Refusal::CountOutside => 5,
-        Refusal::NewEscape => 6,
-        Refusal::TooShort => 7,
-        Refusal::NotValid => 8,
-        Refusal::BitsNotSet => 9,
-        Refusal::RasterCharacters => 10,
-        Refusal::SurfaceSize => 11,
-        Refusal::StoreMalformed => 12,
-        Refusal::StoreTooShort => 13,
-        Refusal::NoSuchMacro => 14,
-        Refusal::TooDeep => 15,
-        Refusal::TooManyMacros => 16,
-        Refusal::BodyRefused => 17,
+impl Refusal {
+    // The number that document 01 gives the refusal.
+    pub fn number(self) -> u8
+        ensures { result ≡ number_of self }
+    {
+        match self {
+            Refusal::BytesEnd => 1,
+            Refusal::UnknownCommand => 2,
+            Refusal::ByteNotAllowed => 3,
+            Refusal::IntegerOutside => 4,
+            Refusal::CountOutside => 5,
+            Refusal::NewEscape => 6,
+            Refusal::TooShort => 7,
+            Refusal::NotValid => 8,
+            Refusal::BitsNotSet => 9,
+            Refusal::RasterCharacters => 10,
+            Refusal::SurfaceSize => 11,
+            Refusal::StoreMalformed => 12,
+            Refusal::StoreTooShort => 13,
+            Refusal::NoSuchMacro => 14,
+            Refusal::TooDeep => 15,
+            Refusal::TooManyMacros => 16,
+            Refusal::BodyRefused => 17,
+        }
+    }
+
+    // The same with the place that a reading gives.
+    pub fn at(self, place: usize) -> RefusedAt
+        ensures { result ≡ record { refusal = self; place = place } }
+    {
+        RefusedAt {
+            refusal: self,
+            place: place,
+        }
     }
 }
 
-// Both hold. A loop that joins its tests so has no way out of its middle, and several are made at once.
-pub fn both(a: bool, b: bool) -> bool
-    ensures { result ≡ a && b }
-{
-    if a {
-        return b;
-    }
-    false
+// A refusal of what was read: "a reading refusal gives its place".
+#[derive(Clone, Copy)]
+pub struct RefusedAt {
+    pub refusal: Refusal,
+    pub place: usize,
+}
+
+// What was read, the place of its last byte, and where reading goes on.
+#[derive(Clone, Copy)]
+pub struct Taken<T> {
+    pub value: T,
+    pub place: usize,
+    pub next: usize,
 }

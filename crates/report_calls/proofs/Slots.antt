@@ -8,7 +8,8 @@ use mir.Val.{SFits, to_z, of_z}
 use mir.Facts.{to_z-of_z}
 use Rattle.refusals.specs.declared.Refusal.{Refusal}
 use Rattle.refusals.specs.Refusals.{number_of}
-use Rattle.refusals.specs.Answers.{Answer, Read, number, value_or, place_of}
+use Rattle.refusals.specs.declared.Taken.{Taken}
+use Rattle.refusals.specs.Answers.{Answer, number, value_or, place_of}
 use Rattle.numbers.specs.declared.IntegerRead.{IntegerRead}
 use Rattle.numbers.specs.declared.TakenInteger.{TakenInteger}
 use Rattle.numbers.specs.Integers.{integer_of}
@@ -19,17 +20,17 @@ use Rattle.reports.specs.Writing.{spell_report, write_report}
 
 -- ---- an integer that was read
 
-module _ {r : IntegerRead} {d : Answer (Read ℤ)} (e : integer_of r ≡ d) where
+module _ {r : IntegerRead} {d : Answer (Taken ℤ)} (e : integer_of r ≡ d) where
   module _ {i : TakenInteger} (g : r ≡ IntegerRead.Integer i) where
     pub integer-done : 0 ≡ number d
     unfolding integer_of number
     integer-done = rw (sym e, g)
 
-    pub integer-value : {x : ℤ} → x ≡ i.value → x ≡ value_or (pos 0) (λ (a : Read ℤ). a.value) d
+    pub integer-value : {x : ℤ} → x ≡ i.value → x ≡ value_or (pos 0) (λ (a : Taken ℤ). a.value) d
     unfolding integer_of value_or
     integer-value j = rw (sym e, g) j
 
-    pub integer-next : i.next ≡ place_of (λ (a : Read ℤ). a.next) d
+    pub integer-next : i.next ≡ place_of (λ (a : Taken ℤ). a.next) d
     unfolding integer_of place_of
     integer-next = rw (sym e, g)
 
@@ -38,11 +39,11 @@ module _ {r : IntegerRead} {d : Answer (Read ℤ)} (e : integer_of r ≡ d) wher
     unfolding integer_of number
     integer-refused j = rw (sym e, g) j
 
-    pub integer-none : pos 0 ≡ value_or (pos 0) (λ (a : Read ℤ). a.value) d
+    pub integer-none : pos 0 ≡ value_or (pos 0) (λ (a : Taken ℤ). a.value) d
     unfolding integer_of value_or
     integer-none = rw (sym e, g)
 
-    pub integer-place : p ≡ place_of (λ (a : Read ℤ). a.next) d
+    pub integer-place : p ≡ place_of (λ (a : Taken ℤ). a.next) d
     unfolding integer_of place_of
     integer-place = rw (sym e, g)
 

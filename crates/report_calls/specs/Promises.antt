@@ -1,14 +1,15 @@
 -- What a report call hands back: the promise of an exported call names the answer of the call beneath once.
 use Rattle.std.specs.Prelude.{ℕ, ◌≡◌, ℤ, pos}
-use Rattle.refusals.specs.Answers.{Answer, Read, value_or, place_of}
+use Rattle.refusals.specs.declared.Taken.{Taken}
+use Rattle.refusals.specs.Answers.{Answer, value_or, place_of}
 use Rattle.refusals.specs.Answers as answers
 use Rattle.reports.specs.declared.TakenString.{TakenString}
 
 -- an integer that was read: 0 or the refusal's number, the value, and where reading goes on or the refusal's place
-pub record HandsInteger (a : Answer (Read ℤ)) (number : ℕ) (value : ℤ) (place : ℕ) : Type 0 where
+pub record HandsInteger (a : Answer (Taken ℤ)) (number : ℕ) (value : ℤ) (place : ℕ) : Type 0 where
   pub same_number : number ≡ answers.number a
-  pub same-value : value ≡ value_or (pos 0) (λ (r : Read ℤ). r.value) a
-  pub same_place : place ≡ place_of (λ (r : Read ℤ). r.next) a
+  pub same-value : value ≡ value_or (pos 0) (λ (r : Taken ℤ). r.value) a
+  pub same_place : place ≡ place_of (λ (r : Taken ℤ). r.next) a
 
 -- a string that was read: the number of entries in place of the value
 pub record HandsString (a : Answer TakenString) (number count place : ℕ) : Type 0 where

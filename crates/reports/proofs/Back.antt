@@ -11,7 +11,8 @@ use lib.Dec.{ltb, leb}
 use lib.ListN.{length, get_or, take, drop, length-map, length-drop}
 use lib.Seq.{get_or-take, get_or-drop, length-take-le}
 use lib.IntN.{ℤ, pos, negsuc, nat_abs}
-use Rattle.refusals.specs.Answers.{every, Answer, done, refused, Read, ends_after}
+use Rattle.refusals.specs.declared.Taken.{Taken}
+use Rattle.refusals.specs.Answers.{every, Answer, done, refused, ends_after}
 use Rattle.refusals.proofs.Cases.{by_pick, by_then, Done, done-of, done-map, is-done, not_done, zero_one}
 use Rattle.wire.proofs.Feeds.{Stands}
 use Rattle.signs.specs.Signs.{signed_of, is_negative}
@@ -36,7 +37,7 @@ size-kept (suc m) true = refl
 size-kept m false = refl
 
 -- what the three bytes were, of what reads as v
-pub record Shown (s : List ℕ) (at : ℕ) (r : Read ℤ) : Type 0 where
+pub record Shown (s : List ℕ) (at : ℕ) (r : Taken ℤ) : Type 0 where
   pub writable : is_report r.value ≡ true
   pub three : r.next ≡ at + 3
   pub bytes : Stands s at (spell_report r.value) ⊎ (Stands s at (32 ∷ 32 ∷ 32 ∷ []) × (r.value ≡ pos 0))
@@ -112,7 +113,7 @@ report_good s at =
     (λ e p g. not_done (Shown s at) e p))
     (λ e p f. not_done (Shown s at) e p))
 
-pub report_shown : (s : List ℕ) (at : ℕ) {r : Read ℤ} → report_at s at ≡ done r → Shown s at r
+pub report_shown : (s : List ℕ) (at : ℕ) {r : Taken ℤ} → report_at s at ≡ done r → Shown s at r
 report_shown s at e = done-of (Shown s at) (report_good s at) e
 
 -- ---- string reports
@@ -155,22 +156,22 @@ pub record Text (s : List ℕ) (at : ℕ) (r : TakenString) : Type 0 where
   pub stand : Stands s (at + 3) (as_bytes (entries_at r.count s (at + 3)))
   pub next-is : r.next ≡ at + 3 + r.count
 
-count_most : (most : ℕ) (a : Answer (Read ℤ)) → Done (λ (r : Read ℕ). r.value ≤ most) (count_in most a)
+count_most : (most : ℕ) (a : Answer (Taken ℤ)) → Done (λ (r : Taken ℕ). r.value ≤ most) (count_in most a)
 unfolding count_in
 count_most most a =
     by_then Few a (as_count most)
     (λ i e. by_pick Few (is_negative i.value) _ _
-    (λ t. not_done (λ (r : Read ℕ). r.value ≤ most) 5 i.place)
+    (λ t. not_done (λ (r : Taken ℕ). r.value ≤ most) 5 i.place)
     (λ t. by_pick Few (leb (nat_abs i.value) most) _ _
-    (λ u. is-done (λ (r : Read ℕ). r.value ≤ most) (leb-true (nat_abs i.value) most u))
-    (λ u. not_done (λ (r : Read ℕ). r.value ≤ most) 5 i.place)))
-    (λ x p e. not_done (λ (r : Read ℕ). r.value ≤ most) x p)
+    (λ u. is-done (λ (r : Taken ℕ). r.value ≤ most) (leb-true (nat_abs i.value) most u))
+    (λ u. not_done (λ (r : Taken ℕ). r.value ≤ most) 5 i.place)))
+    (λ x p e. not_done (λ (r : Taken ℕ). r.value ≤ most) x p)
   where
-    Few : Answer (Read ℕ) → Type 0
-    Few = Done (λ (r : Read ℕ). r.value ≤ most)
+    Few : Answer (Taken ℕ) → Type 0
+    Few = Done (λ (r : Taken ℕ). r.value ≤ most)
 
 -- a count was read as that integer
-count_of : (most : ℕ) (a : Answer (Read ℤ)) → Done (λ (c : Read ℕ). (i : Read ℤ) × ((a ≡ done i) × (i.value ≡ pos c.value))) (count_in most a)
+count_of : (most : ℕ) (a : Answer (Taken ℤ)) → Done (λ (c : Taken ℕ). (i : Taken ℤ) × ((a ≡ done i) × (i.value ≡ pos c.value))) (count_in most a)
 unfolding count_in
 count_of most (done i) =
     by_pick (Done P) (is_negative i.value) _ _
@@ -179,18 +180,18 @@ count_of most (done i) =
     (λ u. is-done P (i, (refl, plain i.value t)))
     (λ u. not_done P 5 i.place))
   where
-    P : Read ℕ → Type 0
-    P c = (j : Read ℤ) × ((done i ≡ done j) × (j.value ≡ pos c.value))
+    P : Taken ℕ → Type 0
+    P c = (j : Taken ℤ) × ((done i ≡ done j) × (j.value ≡ pos c.value))
 
     plain : (v : ℤ) → is_negative v ≡ false → v ≡ pos (nat_abs v)
     plain (pos n) e = refl
     plain (negsuc n) e = let k : ◌≡◌ {A = ℕ} 0 1 = cc in absurd (zero_one k)
-count_of most (refused e p) = not_done (λ (c : Read ℕ). (i : Read ℤ) × ((refused e p ≡ done i) × (i.value ≡ pos c.value))) e p
+count_of most (refused e p) = not_done (λ (c : Taken ℕ). (i : Taken ℤ) × ((refused e p ≡ done i) × (i.value ≡ pos c.value))) e p
 
-heading_of : (s : List ℕ) (at : ℕ) {c : Read ℕ} → count_in 256 (report_at s at) ≡ done c → Stands s at (spell_report (pos c.value)) ⊎ (Stands s at (32 ∷ 32 ∷ 32 ∷ []) × (c.value ≡ 0))
-heading_of s at {c} e = from (done-of (λ (c : Read ℕ). (i : Read ℤ) × ((report_at s at ≡ done i) × (i.value ≡ pos c.value))) (count_of 256 (report_at s at)) e)
+heading_of : (s : List ℕ) (at : ℕ) {c : Taken ℕ} → count_in 256 (report_at s at) ≡ done c → Stands s at (spell_report (pos c.value)) ⊎ (Stands s at (32 ∷ 32 ∷ 32 ∷ []) × (c.value ≡ 0))
+heading_of s at {c} e = from (done-of (λ (c : Taken ℕ). (i : Taken ℤ) × ((report_at s at ≡ done i) × (i.value ≡ pos c.value))) (count_of 256 (report_at s at)) e)
   where
-    from : (i : Read ℤ) × ((report_at s at ≡ done i) × (i.value ≡ pos c.value)) → Stands s at (spell_report (pos c.value)) ⊎ (Stands s at (32 ∷ 32 ∷ 32 ∷ []) × (c.value ≡ 0))
+    from : (i : Taken ℤ) × ((report_at s at ≡ done i) × (i.value ≡ pos c.value)) → Stands s at (spell_report (pos c.value)) ⊎ (Stands s at (32 ∷ 32 ∷ 32 ∷ []) × (c.value ≡ 0))
     from (i, (q, v)) =
         ⊎_elim
         (λ (st : Stands s at (spell_report i.value)). inl (rw v at st))
@@ -221,8 +222,8 @@ unfolding string_at Three
 string_good s at room =
     by_then (Done (Text s at)) (count_in 256 (report_at s at)) _
     (λ c e.
-    let q = done-of (λ (r : Read ℕ). (r.next ≡ at + 3) × (at + 3 ≤ length s)) (behind 256 (λ m. (m ≡ at + 3) × (at + 3 ≤ length s)) (report_at s at) (three s at)) e in
-    let few = done-of (λ (r : Read ℕ). r.value ≤ 256) (count_most 256 (report_at s at)) e in
+    let q = done-of (λ (r : Taken ℕ). (r.next ≡ at + 3) × (at + 3 ≤ length s)) (behind 256 (λ m. (m ≡ at + 3) × (at + 3 ≤ length s)) (report_at s at) (three s at)) e in
+    let few = done-of (λ (r : Taken ℕ). r.value ≤ 256) (count_most 256 (report_at s at)) e in
     by_then (Done (Text s at)) (characters_end c.value s c.next) _
     (λ n g. by_pick (Done (Text s at)) (leb c.value room) _ _
     (λ t. is-done (Text s at) (text s at c.value n (heading_of s at e) few q.1 (rw q.0 at g)))

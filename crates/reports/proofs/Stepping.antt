@@ -10,7 +10,8 @@ use lib.Seq.{sets}
 use lib.IntN.{ℤ, nat_abs}
 use Rattle.refusals.specs.declared.Refusal.{Refusal}
 use Rattle.refusals.specs.declared.Refusal.TheVariants.{NotValid, TooShort}
-use Rattle.refusals.specs.Answers.{Answer, done, refused, Read, ends_after}
+use Rattle.refusals.specs.declared.Taken.{Taken}
+use Rattle.refusals.specs.Answers.{Answer, done, refused, ends_after}
 use Rattle.refusals.proofs.Cases.{by_pick, by_then, Done, done-of, done-map, is-done, not_done}
 use Rattle.refusals.proofs.Many.{passed_all, passed_one, passed_none}
 use Rattle.wire.specs.declared.ByteRead.{ByteRead}
@@ -28,7 +29,7 @@ use Rattle.reports.specs.Reading.{byte_within, report_value, report_from, report
 
 -- ---- a byte byte_within its bounds
 
-pub record Stood (least most : ℕ) (s : List ℕ) (at : ℕ) (r : Read ℕ) : Type 0 where
+pub record Stood (least most : ℕ) (s : List ℕ) (at : ℕ) (r : Taken ℕ) : Type 0 where
   pub low : least ≤ r.value
   pub high : r.value ≤ most
   pub inside : at < length s
@@ -52,10 +53,10 @@ stood least most s at =
     }))))
     (λ t. not_done P 1 (length s))
   where
-    P : Read ℕ → Type 0
+    P : Taken ℕ → Type 0
     P = Stood least most s at
 
-pub stood_of : (least most : ℕ) (s : List ℕ) (at : ℕ) {r : Read ℕ} → byte_within least most s at ≡ done r → Stood least most s at r
+pub stood_of : (least most : ℕ) (s : List ℕ) (at : ℕ) {r : Taken ℕ} → byte_within least most s at ≡ done r → Stood least most s at r
 stood_of least most s at e = done-of (Stood least most s at) (stood least most s at) e
 
 module _ (least most : ℕ) (s : List ℕ) (at : ℕ) {r : ByteRead} (e : byte_of r ≡ byte_within least most s at) where
@@ -94,7 +95,7 @@ pub start-past : (s : List ℕ) (at : ℕ) → length s < at → integer_of (Int
 unfolding report_at integer_of
 start-past s at h = rw (lt-ltb (length s) at h)
 
-pub start-inside : (s : List ℕ) (at : ℕ) {q : Answer (Read ℤ)} → at ≤ length s → q ≡ report_from s at → q ≡ report_at s at
+pub start-inside : (s : List ℕ) (at : ℕ) {q : Answer (Taken ℤ)} → at ≤ length s → q ≡ report_from s at → q ≡ report_at s at
 unfolding report_at
 start-inside s at h j = rw (le-ltb (length s) at h) j
 
@@ -132,7 +133,7 @@ unfolding Ends
 run-within k s at n h e = done-of (Ends s k at) (ends s k at h) e
 
 -- a report that was read took three bytes
-unfoldable pub Three : List ℕ → ℕ → Read ℤ → Type 0
+unfoldable pub Three : List ℕ → ℕ → Taken ℤ → Type 0
 Three s at r = (r.next ≡ at + 3) × (at + 3 ≤ length s)
 
 pub three : (s : List ℕ) (at : ℕ) → Done (Three s at) (report_at s at)
@@ -152,12 +153,12 @@ three s at =
     (λ e p g. not_done (Three s at) e p))
     (λ e p f. not_done (Three s at) e p))
 
-pub three-bytes : (s : List ℕ) (at : ℕ) {r : Read ℤ} → report_at s at ≡ done r → (r.next ≡ at + 3) × (at + 3 ≤ length s)
+pub three-bytes : (s : List ℕ) (at : ℕ) {r : Taken ℤ} → report_at s at ≡ done r → (r.next ≡ at + 3) × (at + 3 ≤ length s)
 unfolding Three
 three-bytes s at e = done-of (Three s at) (three s at) e
 
 -- a count keeps the place behind its integer
-pub behind : (most : ℕ) (P : ℕ → Type 0) (a : Answer (Read ℤ)) → Done (λ r. P r.next) a → Done (λ r. P r.next) (count_in most a)
+pub behind : (most : ℕ) (P : ℕ → Type 0) (a : Answer (Taken ℤ)) → Done (λ r. P r.next) a → Done (λ r. P r.next) (count_in most a)
 unfolding count_in Done
 behind most P (done i) h =
     by_pick (Done (λ r. P r.next)) (is_negative i.value) _ _
@@ -167,7 +168,7 @@ behind most P (refused e p) h = tt
 
 -- ---- a string report
 
-module _ (s : List ℕ) (at : ℕ) {i : Answer (Read ℤ)} (c : CountRead) (ei : i ≡ report_at s at) (ec : count_of c ≡ count_in 256 i) where
+module _ (s : List ℕ) (at : ℕ) {i : Answer (Taken ℤ)} (c : CountRead) (ei : i ≡ report_at s at) (ec : count_of c ≡ count_in 256 i) where
   counted : count_in 256 (report_at s at) ≡ count_of c
   counted = rw (← ei) (sym ec)
 
@@ -182,7 +183,7 @@ module _ (s : List ℕ) (at : ℕ) {i : Answer (Read ℤ)} (c : CountRead) (ei :
 
     next-three : (t.next ≡ at + 3) × (at + 3 ≤ length s)
     unfolding Three
-    next-three = done-of (λ (r : Read ℕ). (r.next ≡ at + 3) × (at + 3 ≤ length s)) (behind 256 (λ m. (m ≡ at + 3) × (at + 3 ≤ length s)) (report_at s at) (three s at)) found
+    next-three = done-of (λ (r : Taken ℕ). (r.next ≡ at + 3) × (at + 3 ≤ length s)) (behind 256 (λ m. (m ≡ at + 3) × (at + 3 ≤ length s)) (report_at s at) (three s at)) found
 
     module _ {e : RunEnd} (ee : run_end_of e ≡ characters_end t.value s t.next) where
       pub characters-refused : (room : ℕ) {x : Refusal} {q : ℕ} → e ≡ RunEnd.Refused x q → string_of (StringRead.Refused x q) ≡ string_at s at room

@@ -4,7 +4,8 @@
 use Rattle.std.specs.Prelude.{ℕ, ◌+◌, ◌-◌, ◌*◌, ◌%◌, List, length, get_or, take, drop, ltb, leb, ℤ}
 use Rattle.std.proofs.lemmas.List.Edits.{sets}
 use Rattle.refusals.specs.Refusals.{number_of}
-use Rattle.refusals.specs.Answers.{Answer, done, refused, Read, then, pick, ends_after}
+use Rattle.refusals.specs.declared.Taken.{Taken}
+use Rattle.refusals.specs.Answers.{Answer, done, refused, then, pick, ends_after}
 use Rattle.signs.specs.Signs.{signed_of}
 use Rattle.numbers.specs.Counts.{count_in}
 use Rattle.characters.specs.Characters.{as_entries}
@@ -13,7 +14,7 @@ use Rattle.reports.specs.declared.TakenString.{TakenString}
 use Rattle.reports.specs.declared.RunEnd.{RunEnd}
 
 -- a byte from least to most, as it stands
-unfoldable pub byte_within : ℕ → ℕ → List ℕ → ℕ → Answer (Read ℕ)
+unfoldable pub byte_within : ℕ → ℕ → List ℕ → ℕ → Answer (Taken ℕ)
 byte_within least most s at =
     pick (ltb at (length s))
     (pick (ltb (get_or s at 0) least)
@@ -26,14 +27,14 @@ byte_within least most s at =
 abbrev pub report_value : (first second low : ℕ) → ℤ
 report_value a b c = signed_of ((a - 32) * 1024 + (b - 32) * 16 + c % 16) (ltb c 48)
 
-unfoldable pub report_from : List ℕ → ℕ → Answer (Read ℤ)
+unfoldable pub report_from : List ℕ → ℕ → Answer (Taken ℤ)
 report_from s at =
     then (byte_within 32 95 s at)
     (λ a. then (byte_within 32 95 s a.next)
     (λ b. then (byte_within 32 63 s b.next)
     (λ c. done (record { value = report_value a.value b.value c.value; place = c.place; next = c.next }))))
 
-unfoldable pub report_at : List ℕ → ℕ → Answer (Read ℤ)
+unfoldable pub report_at : List ℕ → ℕ → Answer (Taken ℤ)
 report_at s at = pick (ltb (length s) at) (refused 8 0) (report_from s at)
 
 -- ---- string reports

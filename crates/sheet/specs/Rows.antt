@@ -4,7 +4,8 @@ use Rattle.memory.specs.declared.Point.{Point}
 use Rattle.memory.specs.declared.DelMode.{DelMode}
 use Rattle.memory.specs.declared.DelMode.TheVariants.{Data, Filler}
 use Rattle.memory.specs.declared.Remembered.{Remembered}
-use Rattle.refusals.specs.Answers.{Answer, done, refused, Read}
+use Rattle.refusals.specs.declared.Taken.{Taken}
+use Rattle.refusals.specs.Answers.{Answer, done, refused}
 
 -- what the papers set
 pub record SheetRow : Type 0 where
@@ -65,7 +66,7 @@ abbrev pub padded : Remembered
 padded = padded_from 0 0
 
 -- a reading: 0, the value, the place of its last byte and where reading goes on; or the refusal and its place
-abbrev pub reading_of : {A : Type 0} → (A → List ℕ) → Answer (Read A) → List ℕ
+abbrev pub reading_of : {A : Type 0} → (A → List ℕ) → Answer (Taken A) → List ℕ
 reading_of value (done r) = 0 ∷ (value r.value ++ (r.place ∷ r.next ∷ []))
 reading_of value (refused e p) = (e ∷ p ∷ [])
 

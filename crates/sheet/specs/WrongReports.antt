@@ -1,6 +1,7 @@
 -- Wrong answers of `reports`, and of its exported calls. Each row: a call, its input, and what it must not answer.
 use Rattle.std.specs.Prelude.{ℕ, List, [], ◌∷◌, ◌++◌, length, ℤ, pos}
-use Rattle.refusals.specs.Answers.{Answer, done, refused, Read, number, value_or, place_of}
+use Rattle.refusals.specs.declared.Taken.{Taken}
+use Rattle.refusals.specs.Answers.{Answer, done, refused, number, value_or, place_of}
 use Rattle.wire.specs.Sending.{after_write}
 use Rattle.reports.specs.declared.TakenString.{TakenString}
 use Rattle.reports.specs.Reading.{report_at, string_at, after_string}
@@ -71,7 +72,7 @@ wrong-write_string_report =
 
 abbrev report_slots : List ℕ → List ℕ → Wrong
 report_slots s wrong =
-    but (number (report_at s 0) ∷ (signs (value_or (pos 0) (λ (r : Read ℤ). r.value) (report_at s 0)) ++ (place_of (λ (r : Read ℤ). r.next) (report_at s 0) ∷ []))) wrong
+    but (number (report_at s 0) ∷ (signs (value_or (pos 0) (λ (r : Taken ℤ). r.value) (report_at s 0)) ++ (place_of (λ (r : Taken ℤ). r.next) (report_at s 0) ∷ []))) wrong
 
 abbrev pub wrong-ardh_read_integer_report : List Wrong
 wrong-ardh_read_integer_report =

@@ -1,14 +1,15 @@
 -- Two conforming answers of a public call coincide.
 use Prim.Native.Nat.{ℕ}
 use mathlib.Core.Path.{◌≡◌, refl, ap}
-use Rattle.refusals.specs.Answers.{Answer, done, refused, Read}
+use Rattle.refusals.specs.declared.Taken.{Taken}
+use Rattle.refusals.specs.Answers.{Answer, done, refused}
 use Rattle.refusals.proofs.Coinciding.{named, named_back, coincide}
 use Rattle.wire.specs.declared.ByteRead.{ByteRead}
 use Rattle.wire.specs.declared.Written.{Written}
 use Rattle.wire.specs.Taking.{byte_of}
 use Rattle.wire.specs.Sending.{written_of}
 
-byte_back : Answer (Read ℕ) → ByteRead
+byte_back : Answer (Taken ℕ) → ByteRead
 byte_back (done r) = ByteRead.Byte (record { value = r.value; place = r.place; next = r.next })
 byte_back (refused e p) = ByteRead.Refused (named e) p
 
@@ -17,7 +18,7 @@ unfolding byte_of byte_back
 byte_same (ByteRead.Byte b) = refl
 byte_same (ByteRead.Refused e p) = ap (λ x. ByteRead.Refused x p) (named_back e)
 
-pub bytes-coincide : {x y : ByteRead} {d : Answer (Read ℕ)} → byte_of x ≡ d → byte_of y ≡ d → x ≡ y
+pub bytes-coincide : {x y : ByteRead} {d : Answer (Taken ℕ)} → byte_of x ≡ d → byte_of y ≡ d → x ≡ y
 bytes-coincide = coincide byte_of byte_back byte_same
 
 written_back : Answer ℕ → Written

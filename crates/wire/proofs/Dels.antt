@@ -8,7 +8,8 @@ use lib.ListN.{length, get_or}
 use Rattle.memory.specs.declared.DelMode.{DelMode}
 use Rattle.memory.specs.declared.DelMode.TheVariants.{Data, Filler}
 use Rattle.memory.specs.declared.Remembered.{Remembered}
-use Rattle.refusals.specs.Answers.{Answer, Read, past_front}
+use Rattle.refusals.specs.declared.Taken.{Taken}
+use Rattle.refusals.specs.Answers.{Answer, past_front}
 use Rattle.refusals.proofs.Passing.{Passing, passing_none, passing_more, passing_stop, passing_end}
 use Rattle.wire.specs.Taking.{is_del, past_dels, pair_at, found_at, byte_at}
 use Rattle.wire.specs.Sending.{plain_in, is_plain}
@@ -50,10 +51,10 @@ module _ (kept : Remembered) {m : DelMode} (em : m ≡ kept.mode) where
 
 -- ---- the byte behind them
 
-pub found_escape : (m : DelMode) (s : List ℕ) (at : ℕ) {p : ℕ} {q : Answer (Read ℕ)} → at < length s → get_or s at 0 ≡ 27 → p ≡ past_dels m s (at + 1) → q ≡ pair_at s at p → q ≡ found_at m s at
+pub found_escape : (m : DelMode) (s : List ℕ) (at : ℕ) {p : ℕ} {q : Answer (Taken ℕ)} → at < length s → get_or s at 0 ≡ 27 → p ≡ past_dels m s (at + 1) → q ≡ pair_at s at p → q ≡ found_at m s at
 unfolding found_at
 found_escape m s at h e f j = rw (lt-ltb at (length s) h, e, ← f) j
 
-pub found_behind : (kept : Remembered) (s : List ℕ) (at : ℕ) {m : DelMode} {p : ℕ} {q : Answer (Read ℕ)} → m ≡ kept.mode → p ≡ past_dels m s at → q ≡ found_at m s p → q ≡ byte_at kept s at
+pub found_behind : (kept : Remembered) (s : List ℕ) (at : ℕ) {m : DelMode} {p : ℕ} {q : Answer (Taken ℕ)} → m ≡ kept.mode → p ≡ past_dels m s at → q ≡ found_at m s p → q ≡ byte_at kept s at
 unfolding byte_at
 found_behind kept s at e f j = rw (← e, ← f) j

@@ -13,7 +13,8 @@ use Rattle.memory.specs.declared.DelMode.TheVariants.{Data, Filler}
 use Rattle.memory.specs.declared.Remembered.{Remembered}
 use Rattle.refusals.specs.declared.Refusal.{Refusal}
 use Rattle.refusals.specs.Refusals.{number_of}
-use Rattle.refusals.specs.Answers.{done, refused, Read, pick, past_front}
+use Rattle.refusals.specs.declared.Taken.{Taken}
+use Rattle.refusals.specs.Answers.{done, refused, pick, past_front}
 use Rattle.refusals.proofs.Cases.{by_pick, and_left, and_right, Done, done-of, done-map, is-done, not_done}
 use Rattle.refusals.proofs.Many.{Checking, checking_none, checking_more, checking_end}
 use Rattle.refusals.proofs.Passing.{past_here, past_on, past_within, past_stops}
@@ -194,7 +195,7 @@ sent-taken kept s at (b ∷ w) pl st =
 
 -- ---- a byte that is taken
 
-pub record Took (s : List ℕ) (at : ℕ) (r : Read ℕ) : Type 0 where
+pub record Took (s : List ℕ) (at : ℕ) (r : Taken ℕ) : Type 0 where
   pub forward : at < r.next
   pub within : r.next ≤ length s
   pub least : 32 ≤ r.value
@@ -230,7 +231,7 @@ found_took m s at =
     (λ t. not_done (Took s at) 1 (length s))
 
 -- what is taken behind DELs is taken from before them
-farther_took : (s : List ℕ) (at from : ℕ) → at ≤ from → (r : Read ℕ) → Took s from r → Took s at r
+farther_took : (s : List ℕ) (at from : ℕ) → at ≤ from → (r : Taken ℕ) → Took s from r → Took s at r
 farther_took s at from h r t = record {
   forward = omega (arith, t.forward);
   within = t.within;
@@ -246,7 +247,7 @@ byte_took kept s at =
     let from = past_dels kept.mode s at in
     done-map (farther_took s at from (dels_on kept.mode s at)) (found_at kept.mode s from) (found_took kept.mode s from)
 
-pub took : (kept : Remembered) (s : List ℕ) (at : ℕ) {r : Read ℕ} → byte_at kept s at ≡ done r → Took s at r
+pub took : (kept : Remembered) (s : List ℕ) (at : ℕ) {r : Taken ℕ} → byte_at kept s at ≡ done r → Took s at r
 took kept s at e = done-of (Took s at) (byte_took kept s at) e
 
 -- ---- what was taken was not sent in fewer bytes
@@ -267,7 +268,7 @@ one-least kept b = one-least_in kept.mode b
 pub one-cheap : (kept : Remembered) (b : ℕ) → (b ≡ 127 → ⊥) → length (sent kept (b ∷ [])) ≡ 1
 one-cheap kept b e = sym (one_size kept b e)
 
-record Cost (m : DelMode) (at : ℕ) (r : Read ℕ) : Type 0 where
+record Cost (m : DelMode) (at : ℕ) (r : Taken ℕ) : Type 0 where
   paid : at + length (sent_in m (r.value ∷ [])) ≤ r.next
 
 pair-cost : (m : DelMode) (s : List ℕ) (at place : ℕ) → at < place → Done (Cost m at) (pair_at s at place)
@@ -303,7 +304,7 @@ found_cost m s at e =
     (λ x. is-done (Cost m at) (record { paid = plain_cost m s at (e (ltb-true at (length s) t)) })))))
     (λ t. not_done (Cost m at) 1 (length s))
 
-pub took_least : (kept : Remembered) (s : List ℕ) (at : ℕ) {r : Read ℕ} → byte_at kept s at ≡ done r → at + length (sent kept (r.value ∷ [])) ≤ r.next
+pub took_least : (kept : Remembered) (s : List ℕ) (at : ℕ) {r : Taken ℕ} → byte_at kept s at ≡ done r → at + length (sent kept (r.value ∷ [])) ≤ r.next
 unfolding sent byte_at
 took_least kept s at e =
     let m = kept.mode in

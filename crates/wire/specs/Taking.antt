@@ -4,12 +4,13 @@ use Rattle.memory.specs.declared.DelMode.{DelMode}
 use Rattle.memory.specs.declared.DelMode.TheVariants.{Data, Filler}
 use Rattle.memory.specs.declared.Remembered.{Remembered}
 use Rattle.refusals.specs.Refusals.{number_of}
-use Rattle.refusals.specs.Answers.{Answer, done, refused, Read, pick, past_front}
+use Rattle.refusals.specs.declared.Taken.{Taken}
+use Rattle.refusals.specs.Answers.{Answer, done, refused, pick, past_front}
 use Rattle.wire.specs.declared.ByteRead.{ByteRead}
 use Rattle.wire.specs.declared.ByteRead.TheVariants.{Byte, Refused}
 
 -- what the answer says
-unfoldable pub byte_of : ByteRead → Answer (Read ℕ)
+unfoldable pub byte_of : ByteRead → Answer (Taken ℕ)
 byte_of (Byte b) = done (record { value = b.value; place = b.place; next = b.next })
 byte_of (Refused e p) = refused (number_of e) p
 
@@ -24,25 +25,25 @@ past_dels Filler s at = past_front is_del s at
 
 -- the byte behind the ESC at esc stands at place. "In a parameter, ESC followed by 63 reads as 127", "for the pair 27 63 the place is that of the
 -- 63"; "27 at the end of the bytes is 1; 27 before another byte than 63 is 6 at the 27"
-unfoldable pub pair_at : List ℕ → (esc place : ℕ) → Answer (Read ℕ)
+unfoldable pub pair_at : List ℕ → (esc place : ℕ) → Answer (Taken ℕ)
 pair_at s esc place =
     pick (ltb place (length s))
     (pick (eqb (get_or s place 0) 63) (done (record { value = 127; place = place; next = place + 1 })) (refused 6 esc))
     (refused 1 (length s))
 
 -- any other byte is 32..127, or not allowed
-abbrev pub plain_at : ℕ → ℕ → Answer (Read ℕ)
+abbrev pub plain_at : ℕ → ℕ → Answer (Taken ℕ)
 plain_at b at =
     pick (ltb b 32) (refused 3 at) (pick (ltb 127 b) (refused 3 at) (done (record { value = b; place = at; next = at + 1 })))
 
 -- the byte that stands at at; "A 127 between the two bytes of a pair is passed over too."
-unfoldable pub found_at : DelMode → List ℕ → ℕ → Answer (Read ℕ)
+unfoldable pub found_at : DelMode → List ℕ → ℕ → Answer (Taken ℕ)
 found_at mode s at =
     pick (ltb at (length s))
     (pick (eqb (get_or s at 0) 27) (pair_at s at (past_dels mode s (at + 1))) (plain_at (get_or s at 0) at))
     (refused 1 (length s))
 
-unfoldable pub byte_at : Remembered → List ℕ → ℕ → Answer (Read ℕ)
+unfoldable pub byte_at : Remembered → List ℕ → ℕ → Answer (Taken ℕ)
 byte_at kept s at = found_at kept.mode s (past_dels kept.mode s at)
 
 -- the highest byte that is taken as it stands: a DEL only where it is data. The quick way of reading goes by this; what a byte is taken as does not.
