@@ -4,20 +4,20 @@
 ghost use Rattle.std.specs.Prelude.{◌≡◌};
 ghost use Rattle.memory.specs.Memory.{fresh_memory, inside, remember, in_mode};
 
-#[derive(Clone, Copy)]
+#[derive(Clone, Copy, PartialEq, Eq)]
 pub struct Point {
     pub x: u16,
     pub y: u16,
 }
 
 // What a plain 127 is: "data wherever a parameter allows it", or, after KI 1, filler, which is "passed over".
-#[derive(Clone, Copy)]
+#[derive(Clone, Copy, PartialEq, Eq)]
 pub enum DelMode {
     Data,
     Filler,
 }
 
-#[derive(Clone, Copy)]
+#[derive(Clone, Copy, PartialEq, Eq)]
 pub struct Remembered {
     // the last point
     pub point: Point,
@@ -29,39 +29,32 @@ pub struct Remembered {
 pub fn fresh() -> Remembered
     ensures { result ≡ fresh_memory }
 {
-    let point = Point { x: 0, y: 0 };
     Remembered {
-        point: point,
+        point: Point { x: 0, y: 0 },
         mode: DelMode::Data,
     }
 }
+
+// The largest coordinate of a point.
+pub const MOST_COORDINATE: u16 = 4095;
 
 // "x and y 0..4095"
 pub fn is_inside(point: Point) -> bool
     ensures { result ≡ inside point }
 {
-    if point.x > 4095 {
-        return false;
-    }
-    point.y <= 4095
+    point.x <= MOST_COORDINATE && point.y <= MOST_COORDINATE
 }
 
 // What is remembered once `point` has been read or written.
 pub fn with_point(kept: Remembered, point: Point) -> Remembered
     ensures { result ≡ remember kept point }
 {
-    let mut after = kept;
-    after.point = point;
-    after
+    Remembered { point, ..kept }
 }
 
 // What is remembered once KI has set this mode.
 pub fn with_mode(kept: Remembered, mode: DelMode) -> Remembered
     ensures { result ≡ in_mode kept mode }
 {
-    let point = kept.point;
-    Remembered {
-        point: point,
-        mode: mode,
-    }
+    Remembered { mode, ..kept }
 }
