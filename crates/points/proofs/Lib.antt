@@ -1,4 +1,5 @@
 pub mod Insides
+pub mod Seconds
 pub mod Spelling
 pub mod ByKind
 pub mod RoundTrip

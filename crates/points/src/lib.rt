@@ -219,7 +219,6 @@ fn pour_part(kept: Remembered, n: usize, omit: bool, b: u8, out: &mut [u8], at: 
 }
 
 // HiY, Extra and LoY, each by value to its place: bytes that are stored to be read again are slow.
-#[tactic(auto, using(crate::proofs::Spelling::upper_size, crate::proofs::Spelling::upper_stands))]
 fn pour_upper(
     kept: Remembered,
     a: PointBytes,
