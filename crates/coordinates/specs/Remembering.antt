@@ -10,10 +10,6 @@ unfoldable pub mode_number : DelMode → ℕ
 mode_number Data = 0
 mode_number Filler = 1
 
--- the mode of a number that has one
-unfoldable pub mode_of : ℕ → DelMode
-mode_of n = pick (eqb n 1) Filler Data
-
 unfoldable pub slots_of : Remembered → List ℕ
 slots_of kept = kept.point.x ∷ kept.point.y ∷ mode_number kept.mode ∷ []
 

@@ -3,70 +3,60 @@
 
 ghost use Rattle.std.specs.Prelude.{◌≡◌};
 ghost use Rattle.coordinates.specs.Coordinates.{coordinate_of, point_given};
-ghost use Rattle.coordinates.specs.Remembering.{kept_in, mode_of, mode_number, slots_of};
+ghost use Rattle.coordinates.specs.Remembering.{kept_in, mode_number, slots_of};
 
-use memory::{DelMode, Point, Remembered};
+use memory::{DelMode, MOST_COORDINATE, Point, Remembered};
 
 // Stands for every coordinate outside 0..4095: no surface has it, and no point may be written with it.
-const OUTSIDE: u16 = 4096;
+const OUTSIDE: u16 = MOST_COORDINATE + 1;
 
+#[tactic(auto, using(refusals::proofs::Rules::tests), unfolding(crate::specs::Coordinates::coordinate_of))]
 fn coordinate(v: i32) -> u16
     ensures { result ≡ coordinate_of v }
 {
-    if signs::is_negative(v) {
-        return OUTSIDE;
+    match u16::try_from(v) {
+        Ok(m) if m <= MOST_COORDINATE => m,
+        _ => OUTSIDE,
     }
-    let m = signs::magnitude(v);
-    if m > 4095 {
-        return OUTSIDE;
-    }
-    m as u16
 }
 
 pub fn point_given(x: i32, y: i32) -> Point
     ensures { result ≡ point_given x y }
 {
-    let across = coordinate(x);
-    let up = coordinate(y);
-    Point { x: across, y: up }
+    Point {
+        x: coordinate(x),
+        y: coordinate(y),
+    }
 }
 
 // ---- what is remembered
 
-fn mode_of(number: u16) -> DelMode
-    ensures { result ≡ mode_of number }
-{
-    if number == 1 {
-        return DelMode::Filler;
-    }
-    DelMode::Data
-}
-
 // A mode that is neither 0 nor 1 stands for a point outside, so that each call refuses it with 8, "value out of range".
+#[tactic(auto, using(refusals::proofs::Rules::tests), unfolding(crate::specs::Remembering::kept_in))]
 pub fn kept_in(remembered: &[u16; 3]) -> Remembered
     ensures { result ≡ kept_in remembered.now }
 {
-    let x = remembered[0];
-    let y = remembered[1];
-    let number = remembered[2];
-    if number > 1 {
-        let nowhere = Point {
-            x: OUTSIDE,
-            y: OUTSIDE,
-        };
-        return Remembered {
-            point: nowhere,
+    let [x, y, number] = *remembered;
+    match number {
+        0 => Remembered {
+            point: Point { x, y },
             mode: DelMode::Data,
-        };
-    }
-    let last = Point { x: x, y: y };
-    let mode = mode_of(number);
-    Remembered {
-        point: last,
-        mode: mode,
+        },
+        1 => Remembered {
+            point: Point { x, y },
+            mode: DelMode::Filler,
+        },
+        _ => Remembered {
+            point: Point {
+                x: OUTSIDE,
+                y: OUTSIDE,
+            },
+            mode: DelMode::Data,
+        },
     }
 }
 
+#[tactic(auto, unfolding(crate::specs::Remembering::mode_number))]
 fn mode_number(mode: DelMode) -> u16
     ensures { result ≡ mode_number mode }
 {
@@ -76,11 +66,9 @@ fn mode_number(mode: DelMode) -> u16
     }
 }
 
+#[tactic(auto, unfolding(crate::specs::Remembering::slots_of))]
 pub fn slots_of(kept: Remembered) -> [u16; 3]
     ensures { result ≡ slots_of kept }
 {
-    let point = kept.point;
-    let mode = kept.mode;
-    let number = mode_number(mode);
-    [point.x, point.y, number]
+    [kept.point.x, kept.point.y, mode_number(kept.mode)]
 }

@@ -29,39 +29,32 @@ pub struct Remembered {
 pub fn fresh() -> Remembered
     ensures { result ≡ fresh_memory }
 {
-    let point = Point { x: 0, y: 0 };
     Remembered {
-        point: point,
+        point: Point { x: 0, y: 0 },
         mode: DelMode::Data,
     }
 }
+
+// The largest coordinate of a point.
+pub const MOST_COORDINATE: u16 = 4095;
 
 // "x and y 0..4095"
 pub fn is_inside(point: Point) -> bool
     ensures { result ≡ inside point }
 {
-    if point.x > 4095 {
-        return false;
-    }
-    point.y <= 4095
+    point.x <= MOST_COORDINATE && point.y <= MOST_COORDINATE
 }
 
 // What is remembered once `point` has been read or written.
 pub fn with_point(kept: Remembered, point: Point) -> Remembered
     ensures { result ≡ remember kept point }
 {
-    let mut after = kept;
-    after.point = point;
-    after
+    Remembered { point, ..kept }
 }
 
 // What is remembered once KI has set this mode.
 pub fn with_mode(kept: Remembered, mode: DelMode) -> Remembered
     ensures { result ≡ in_mode kept mode }
 {
-    let point = kept.point;
-    Remembered {
-        point: point,
-        mode: mode,
-    }
+    Remembered { mode, ..kept }
 }

@@ -4,7 +4,6 @@ use mathlib.Core.Path.{◌≡◌}
 use mathlib.Core.Bool.{Bool, true, false}
 use native.Mathlib.Omega.{arith}
 use borrow.Author.Tests.{le-leb, lt-leb}
-use lib.Dec.{leb}
 use lib.IntN.{ℤ, nat_abs}
 use mir.Syntax.{w32}
 use mir.Val.{SFits, to_z, of_z}
@@ -28,6 +27,3 @@ module _ (v : ℤ) (f : SFits w32 v) {m : ℕ} {t : Bool} (et : t ≡ is_negativ
 
   pub an_integer : {k : ℕ} → k ≡ most_magnitude t → m ≤ k → is_integer v ≡ true
   an_integer {k} ek h = rw (← size-given, ← sign_given, ← ek, le-leb m k h)
-
-  pub integer-tested : {k : ℕ} → k ≡ most_magnitude t → leb m k ≡ is_integer v
-  integer-tested ek = rw (← size-given, ← sign_given, ← ek)

@@ -8,23 +8,15 @@ ghost use Rattle.signs.specs.Signs.{signed_of, is_negative, most_magnitude, is_i
 pub fn signed(mag: u16, negative: bool) -> i32
     ensures { result ≡ signed_of mag negative }
 {
-    let m = mag as i32;
-    if negative {
-        return 0 - m;
-    }
-    m
+    let m = i32::from(mag);
+    if negative { -m } else { m }
 }
 
 // The magnitude of any number, the least one too.
 pub fn magnitude(v: i32) -> u32
     ensures { result ≡ nat_abs v }
 {
-    if v < 0 {
-        let n = v + 1;
-        let m = 0 - n;
-        return m as u32 + 1;
-    }
-    v as u32
+    v.unsigned_abs()
 }
 
 pub fn is_negative(v: i32) -> bool
@@ -37,10 +29,7 @@ pub fn is_negative(v: i32) -> bool
 pub fn most_magnitude(negative: bool) -> u32
     ensures { result ≡ most_magnitude negative }
 {
-    if negative {
-        return 32768;
-    }
-    32767
+    if negative { 32768 } else { 32767 }
 }
 
 // "Range -32768..32767"

@@ -1,9 +1,8 @@
 -- Two conforming answers of kind_of coincide, and two kinds that mean the same.
 use mathlib.Core.Path.{◌≡◌, refl, ap}
+use Rattle.std.specs.Prelude.{Option, Some, None}
 use Rattle.refusals.proofs.Coinciding.{coincide}
 use Rattle.table.specs.declared.Kind.{Kind}
-use Rattle.table.specs.declared.Found.{Found}
-use Rattle.table.specs.declared.Found.TheVariants.{Is, NoKind}
 use Rattle.table.specs.Table.{ParameterKind, Tabled, in_table, not_in_table, kind_meant, found_of}
 use Rattle.table.specs.Table as Table
 
@@ -37,14 +36,14 @@ kind-same Kind.TwoCharacters = refl
 pub kinds_coincide : (x y : Kind) {d : ParameterKind} → kind_meant x ≡ d → kind_meant y ≡ d → x ≡ y
 kinds_coincide x y = coincide kind_meant kind-back kind-same
 
-found_back : Tabled → Found
-found_back (in_table k) = Is (kind-back k)
-found_back not_in_table = NoKind
+found_back : Tabled → Option Kind
+found_back (in_table k) = Some (kind-back k)
+found_back not_in_table = None
 
-found_same : (r : Found) → found_back (found_of r) ≡ r
+found_same : (r : Option Kind) → found_back (found_of r) ≡ r
 unfolding found_back found_of
-found_same (Is k) = ap Is (kind-same k)
-found_same NoKind = refl
+found_same (Some k) = ap Some (kind-same k)
+found_same None = refl
 
-pub founds_coincide : {x y : Found} {d : Tabled} → found_of x ≡ d → found_of y ≡ d → x ≡ y
+pub founds_coincide : {x y : Option Kind} {d : Tabled} → found_of x ≡ d → found_of y ≡ d → x ≡ y
 founds_coincide = coincide found_of found_back found_same

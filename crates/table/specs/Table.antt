@@ -1,11 +1,9 @@
 -- Document 01, "The commands": the letters of each and its kind of parameters. NL stands where document 01 prints NX, since "if an op
 -- letter below differs from the summary table of document 000, the table wins".
-use Rattle.std.specs.Prelude.{ℕ, Bool, false, ◌&&◌, ◌||◌, List, [], ◌∷◌, eqb}
+use Rattle.std.specs.Prelude.{ℕ, Bool, false, ◌&&◌, ◌||◌, List, [], ◌∷◌, eqb, Option, Some, None}
 use Rattle.refusals.specs.Answers.{pick}
 use Rattle.table.specs.declared.Kind.{Kind}
 use Rattle.table.specs.declared.Kind.TheVariants.{OneInteger, TwoIntegers, ThreeIntegers, OnePoint, TwoPoints, AReal, AString, AnArray, IntegerThenArray, IntegerThenString, TwoCharacters}
-use Rattle.table.specs.declared.Found.{Found}
-use Rattle.table.specs.declared.Found.TheVariants.{Is, NoKind}
 
 -- the kinds of parameters that it names
 pub data ParameterKind : Type 0 where
@@ -99,6 +97,6 @@ kind_meant IntegerThenArray = integer_then_array
 kind_meant IntegerThenString = integer_then_string
 kind_meant TwoCharacters = two_characters
 
-unfoldable pub found_of : Found → Tabled
-found_of (Is k) = in_table (kind_meant k)
-found_of NoKind = not_in_table
+unfoldable pub found_of : Option Kind → Tabled
+found_of (Some k) = in_table (kind_meant k)
+found_of None = not_in_table

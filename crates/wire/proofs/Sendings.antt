@@ -60,8 +60,8 @@ pub sent-long : (kept : Remembered) (w : List ℕ) → length (sent kept w) ≤ 
 unfolding sent
 sent-long kept w = sent-long_in kept.mode w
 
-pub sent-same : (kept : Remembered) (w : List ℕ) {v : List ℕ} → v ≡ w → sent kept v ≡ sent kept w
-sent-same kept w e = ap (sent kept) e
+pub sent_same : (kept : Remembered) (w : List ℕ) {v : List ℕ} → v ≡ w → sent kept v ≡ sent kept w
+sent_same kept w e = ap (sent kept) e
 
 -- ---- one byte
 

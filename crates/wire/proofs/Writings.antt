@@ -177,4 +177,6 @@ module _ (w l : List ℕ) (at : ℕ) {ok : Bool} (t : ok ≡ true) where
 
 pub ruleset rooms = (at-past, no_room, has_room)
 
+pub ruleset ranged = (none_size, none_stand, pours_size, pours_stand)
+
 pub ruleset writings = (written-so, all_changed, none_changed)
