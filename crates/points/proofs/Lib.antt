@@ -1,7 +1,6 @@
-pub mod Masks
-pub mod Stepping
+pub mod Insides
+pub mod Seconds
 pub mod Spelling
 pub mod ByKind
 pub mod RoundTrip
 pub mod Shortest
-pub mod Coinciding

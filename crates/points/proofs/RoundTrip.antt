@@ -18,7 +18,7 @@ use Rattle.points.specs.declared.PointBytes.{PointBytes}
 use Rattle.points.specs.Layout.{Inside, bytes_of, coordinates}
 use Rattle.points.specs.Reading.{by_kind, with_hi_y, with_extra, with_lo_y, with_hi_x, with_lo_x, ends_at, lo_x, last_at, after_lo_y, after_upper, after_hi_y, point_from, point_at}
 use Rattle.points.specs.Writing.{part, spell_bytes, spell_point}
-use Rattle.points.proofs.Stepping.{insides}
+use Rattle.points.proofs.Insides.{insides}
 use Rattle.points.proofs.ByKind.{is-hi, is-lo, is-upper}
 
 -- bytes that a point can have

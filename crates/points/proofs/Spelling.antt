@@ -1,47 +1,26 @@
 -- The spelling of a point, poured byte by byte, and its writing.
-use Prim.Native.Nat.{ℕ, ◌+◌, ◌≤◌}
-use mathlib.Core.Path.{◌≡◌, refl, sym, ◌∙◌, ap}
-use mathlib.Core.Bool.{Bool, true, false, not, ◌&&◌}
+use Prim.Native.Nat.{ℕ, ◌+◌}
+use mathlib.Core.Path.{◌≡◌, refl, ◌∙◌, ap}
+use mathlib.Core.Bool.{Bool, false, ◌&&◌}
 use mathlib.Core.List.{List, [], ◌∷◌, ◌++◌}
 use native.Mathlib.Omega.{arith}
 use lib.Dec.{eqb}
 use lib.ListN.{length}
 use lib.Seq.{sets}
-use mir.Syntax.{w64}
-use mir.Val.{Fits}
-use borrow.Author.Rules.{Fits-under}
-use borrow.Author.Tests.{not-true, not-false}
 use Rattle.memory.specs.declared.Remembered.{Remembered}
 use Rattle.memory.specs.declared.Point.{Point}
-use Rattle.memory.specs.Memory.{inside}
 use Rattle.wire.specs.Sending.{sent}
 use Rattle.wire.proofs.Sendings.{sent-none, sent-long}
-use Rattle.wire.proofs.Writings.{more_size, more_stands}
+use Rattle.refusals.proofs.Rules.{tests}
+use Rattle.wire.proofs.Writings.{more_size, more_stands, pours_size, pours_stand, none_size, none_stand, outside, none_changed, poured-so, poured-stands}
 use Rattle.points.specs.declared.PointBytes.{PointBytes}
 use Rattle.points.specs.Layout.{bytes_of}
 use Rattle.points.specs.Writing.{part, upper_bytes, spell_bytes, spell_point}
+use Rattle.points.proofs.Insides.{both_outside, both_inside, first_inside, second_inside}
 
 -- ---- pouring the parts, each behind those before it
 
-module _ (kept : Remembered) (n b : ℕ) {t : Bool} where
-  pub left_size : t ≡ true → n ≡ n + length (sent kept (part t b))
-  left_size e = rw (e, sent-none kept) (omega arith)
-
-  pub left_stands : (l : List ℕ) (at : ℕ) → t ≡ true → l ≡ sets l (at + n) (sent kept (part t b))
-  left_stands l at e = rw (e, sent-none kept)
-
-  pub put-size : {m : ℕ} → t ≡ false → m ≡ length (sent kept (b ∷ [])) → n + m ≡ n + length (sent kept (part t b))
-  put-size e em = rw (e, em)
-
-  pub put-stands : (l : List ℕ) (at : ℕ) {o : List ℕ} → t ≡ false → o ≡ sets l (at + n) (sent kept (b ∷ [])) → o ≡ sets l (at + n) (sent kept (part t b))
-  put-stands l at e j = rw e j
-
-module _ (kept : Remembered) (n b : ℕ) {m : ℕ} (em : m ≡ length (sent kept (b ∷ []))) where
-  pub put-few : n + m ≤ n + 2
-  put-few = omega (arith, em, sent-long kept (b ∷ []))
-
-  pub put-fits : n ≤ 8 → Fits w64 (n + m)
-  put-fits h = Fits-under w64 (n + m) 11 (omega (arith, em, sent-long kept (b ∷ []))) tt
+pub ruleset parts = (tests, sent-none, sent-long)
 
 module _ (kept : Remembered) (a b : PointBytes) (y : Bool) {one two : ℕ}
     (e₁ : one ≡ 0 + length (sent kept (part (eqb a.hiy b.hiy) b.hiy)))
@@ -96,18 +75,9 @@ module _ (kept : Remembered) (a b : PointBytes) {x y : Bool} {upper most : ℕ}
 
 -- ---- writing
 
-pub both_so : (p q : Point) {t u v : Bool} → t ≡ u && v → u ≡ inside p → v ≡ inside q → t ≡ inside p && inside q
-both_so p q et eu ev = rw (et, eu, ev)
-
-module _ (p q : Point) {t : Bool} (e : t ≡ inside p && inside q) where
-  pub both_tested : {u : Bool} → t ≡ u → inside p && inside q ≡ u
-  both_tested j = sym e ∙ j
-
-  pub both_outside : not t ≡ true → inside p && inside q ≡ false
-  both_outside j = both_tested (not-true t j)
-
-  pub both_inside : not t ≡ false → inside p && inside q ≡ true
-  both_inside j = both_tested (not-false t j)
-
 pub sent-point : (kept : Remembered) (p q : Point) {a b : PointBytes} → a ≡ bytes_of p → b ≡ bytes_of q → sent kept (spell_bytes a b) ≡ sent kept (spell_point p q)
 sent-point kept p q ea eb = rw (ea, eb)
+
+pub ruleset pourings = (first_inside, second_inside, both_inside, both_outside, pours_size, pours_stand, none_size, none_stand, sent-point)
+
+pub ruleset writings = (both_inside, both_outside, outside, none_changed, poured-so, poured-stands)

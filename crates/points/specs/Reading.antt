@@ -4,19 +4,11 @@ use Rattle.std.specs.Prelude.{ℕ, List, ltb}
 use Rattle.memory.specs.declared.Point.{Point}
 use Rattle.memory.specs.declared.Remembered.{Remembered}
 use Rattle.memory.specs.Memory.{inside}
-use Rattle.refusals.specs.Refusals.{number_of}
 use Rattle.refusals.specs.declared.Taken.{Taken}
 use Rattle.refusals.specs.Answers.{Answer, done, refused, then, pick}
 use Rattle.wire.specs.Taking.{byte_at}
 use Rattle.points.specs.declared.PointBytes.{PointBytes}
-use Rattle.points.specs.declared.PointRead.{PointRead}
-use Rattle.points.specs.declared.PointRead.TheVariants.{At, Refused}
 use Rattle.points.specs.Layout.{bytes_of, coordinates}
-
--- what the answer says
-unfoldable pub point_of : PointRead → Answer (Taken Point)
-point_of (At t) = done (record { value = t.value; place = t.place; next = t.next })
-point_of (Refused e p) = refused (number_of e) p
 
 -- the next byte, by its kind: 32..63 is HiY or HiX, 64..95 is LoX, 96..127 is Extra or LoY
 unfoldable pub by_kind : Remembered → List ℕ → ℕ → (hi lo upper : Taken ℕ → Answer (Taken Point)) → Answer (Taken Point)
