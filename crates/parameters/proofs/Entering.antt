@@ -104,22 +104,30 @@ module _ (e : Entry) (kept : Remembered) (s : List ℕ) (at count : ℕ) (l₀ l
   reading-all h = many.filling_end (entry_at e kept s) at count l₀ l i n f.filling h
 
   module _ {r : Result (Taken ℤ) RefusedAt} (g : answer_at r ≡ entry_at e kept s n) where
-    pub reading-more : (x : ℤ) {v : Taken ℤ} → i < count → r ≡ Ok v → x ≡ v.value → Reading e kept s at count l₀ (set l i x) (i + 1) v.next
-    reading-more x h k j =
+    pub reading_more : (x : ℤ) {v : Taken ℤ} → i < count → r ≡ Ok v → x ≡ v.value → Reading e kept s at count l₀ (set l i x) (i + 1) v.next
+    reading_more x h k j =
         record {
           passing = passing_more e kept s at count i n f.passing g h k;
           filling = rw j (many.filling_more (entry_at e kept s) at count l₀ l i n f.filling h (entry_given e kept s n g k));
         }
 
-    pub reading-cut : {x : RefusedAt} → i < count → r ≡ Err x → answer_at {A = ℕ} (Err x) ≡ entries_end e kept count s at
-    reading-cut h k = passing_cut e kept s at count i n f.passing g h k
+    pub reading_cut : {x : RefusedAt} → i < count → r ≡ Err x → answer_at {A = ℕ} (Err x) ≡ entries_end e kept count s at
+    reading_cut h k = passing_cut e kept s at count i n f.passing g h k
 
-    pub reading-some : {x : RefusedAt} → r ≡ Err x → l ≡ sets l₀ 0 (entry_values e kept count s at)
-    reading-some k = many.filling_cut (entry_at e kept s) at count l₀ l i n f.filling (entry_none e kept s n g k)
+    pub reading_some : {x : RefusedAt} → r ≡ Err x → l ≡ sets l₀ 0 (entry_values e kept count s at)
+    reading_some k = many.filling_cut (entry_at e kept s) at count l₀ l i n f.filling (entry_none e kept s n g k)
 
-pub ruleset readings = (reading-none, reading-end, reading-all, reading-more, reading-cut, reading-some)
+pub ruleset readings = (reading-none, reading-end, reading-all, reading_more, reading_cut, reading_some)
 
 -- ---- handing them over
+
+pub front_handed : (es l : List ℤ) (k : ℕ) {o : List ℤ} → k ≤ length es → k ≤ length l → o ≡ take k es → o ++ drop k l ≡ sets l 0 (take k es)
+front_handed es l k there room e =
+    let long : length (take k es) ≡ k = length-take-le k es there in
+    let z : k ≡ 0 + length (take k es) = omega (arith, long) in
+    ap (λ (w : List ℤ). w ++ drop k l) e
+    ∙ ap (λ (n : ℕ). take k es ++ drop n l) z
+    ∙ sym (sets-eq (take k es) l 0 (omega (arith, room, long)))
 
 pub record Handing (es : List ℤ) (k : ℕ) (l₀ l : List ℤ) (i : ℕ) : Type 0 where
   pub upto : i ≤ k
@@ -186,8 +194,8 @@ module _ (e : Entry) (kept : Remembered) (k : ℕ) (s : List ℕ) (at : ℕ) whe
       go (refused x p) = refl
 
   module _ {t : Result ℕ RefusedAt} (et : answer_at t ≡ entries_end e kept k s at) where
-    pub end-handed : {u : Result ℕ RefusedAt} → t ≡ u → answer_at u ≡ entries_end e kept k s at
-    end-handed h = sym (ap answer_at h) ∙ et
+    pub end_handed : {u : Result ℕ RefusedAt} → t ≡ u → answer_at u ≡ entries_end e kept k s at
+    end_handed h = sym (ap answer_at h) ∙ et
 
     pub cut_handed : (l : List ℤ) {x : RefusedAt} → t ≡ Err x → l ≡ list_behind e kept k s at l
     unfolding list_behind answer_at value_or
@@ -208,7 +216,7 @@ module _ (e : Entry) (kept : Remembered) (k : ℕ) (s : List ℕ) (at : ℕ) whe
         ∙ ap (λ (w : List ℤ). sets l 0 w) front
         ∙ rw (ended h, le-leb k (length l) room)
 
-pub ruleset handed-over = (stored_there, none_handed, end-handed, cut_handed, all_handed)
+pub ruleset handed_over = (stored_there, none_handed, end_handed, cut_handed, all_handed)
 
 -- ---- a count and that many entries
 
@@ -217,8 +225,8 @@ module _ (kept : Remembered) (s : List ℕ) (at : ℕ) {c : Result (Taken ℕ) R
   unfolding answer_at
   count-given = sym ec ∙ rw g
 
-  pub count-few : k.value ≤ 256
-  count-few = (count-shown kept s at count-given).writable
+  pub count_few : k.value ≤ 256
+  count_few = (count-shown kept s at count-given).writable
 
 -- the list behind a counted one, once the count is known
 run-list : (e : Entry) (kept : Remembered) (k : ℕ) (s : List ℕ) (start : ℕ) (l : List ℤ) (q : Answer ℕ) → value_or l (λ (n : ℕ). handed k (entry_values e kept k s start) l) q ≡ after_run e kept s (then q (λ n. done (record { start = start; count = k; next = n }))) l
@@ -249,7 +257,7 @@ module _ (e : Entry) (kept : Remembered) (s : List ℕ) (at : ℕ) {c : Result (
       unfolding run_at answer_at
       run-whole h = rw (← ec, g, ← et, h)
 
-pub ruleset runs = (count-few, run-no, kept-no, run-left, run-cut, run-whole)
+pub ruleset runs = (count_few, run-no, kept-no, run-left, run-cut, run-whole)
 
 -- ---- characters that are taken as they stand
 
@@ -329,7 +337,7 @@ module _ (kept : Remembered) (k : ℕ) (s : List ℕ) (at : ℕ) {r : Bool} (er 
   so : AsTheyStand kept k s at
   so = standing kept k s at er t
 
-  pub characters-end : answer_at (End (at + k)) ≡ entries_end ACharacter kept k s at
+  pub characters-end : answer_at (Ok (at + k)) ≡ entries_end ACharacter kept k s at
   unfolding answer_at
   characters-end = sym so.end_is
 
@@ -353,15 +361,17 @@ module _ (kept : Remembered) (k : ℕ) (s : List ℕ) (at : ℕ) {r : Bool} (er 
   characters-laid l h e =
       e ∙ ap (λ (w : List ℕ). sets l 0 (map pos w)) part-is ∙ rw (so.end_is, so.values-are, le-leb k (length l) h)
 
-  pub characters-few : length s < 2 ^ 64 → at + k < 2 ^ 64
-  characters-few h = omega (arith, h, ahead_room kept k s at er t)
+  pub characters_few : length s < 2 ^ 64 → at + k < 2 ^ 64
+  characters_few h = omega (arith, h, ahead_room kept k s at er t)
 
 pub ruleset strings = (ahead_room, characters-end, characters-fit, characters-laid)
 
 -- what holds of characters holds of entries that are characters
 module _ (kept : Remembered) (k : ℕ) (s : List ℕ) (at : ℕ) {e : Entry} (g : e ≡ ACharacter) where
-  pub kind-end : {q : Answer ℕ} → q ≡ entries_end ACharacter kept k s at → q ≡ entries_end e kept k s at
-  kind-end j = rw g j
+  pub kind_end : {q : Answer ℕ} → q ≡ entries_end ACharacter kept k s at → q ≡ entries_end e kept k s at
+  kind_end j = rw g j
 
-  pub kind-left : (l : List ℤ) {o : List ℤ} → o ≡ list_behind ACharacter kept k s at l → o ≡ list_behind e kept k s at l
-  kind-left l j = rw g j
+  pub kind_left : (l : List ℤ) {o : List ℤ} → o ≡ list_behind ACharacter kept k s at l → o ≡ list_behind e kept k s at l
+  kind_left l j = rw g j
+
+pub ruleset kinds = (kind_end, kind_left)

@@ -6,6 +6,7 @@ use native.Mathlib.Omega.{arith}
 use borrow.Author.Tests.{le-leb}
 use lib.ListN.{length}
 use lib.IntN.{ℤ}
+use Rattle.memory.specs.declared.Point.{Point}
 use Rattle.memory.specs.declared.Remembered.{Remembered}
 use Rattle.memory.specs.Memory.{remember}
 use Rattle.std.specs.Prelude.{Result, Ok, Err}
@@ -46,7 +47,7 @@ module _ (e : Entry) (kept : Remembered) (s : List ℕ) (at : ℕ) {r : Result (
     unfolding two_entries_at answer_at
     two-entries_both x y h ex ey = rw (ex, ey, entry_given e kept s at er g, entry_given e kept s i.next eq h)
 
-pub ruleset two-entries = (two-entries_no, two-entries_half, two-entries_both)
+pub ruleset two_entries = (two-entries_no, two-entries_half, two-entries_both)
 
 -- two single parts are a pair
 abbrev before : Value → Fixed → Answer Fixed
@@ -184,8 +185,8 @@ pub ruleset fixeds = (one-integer_no, one-integer_is, two-integers_no, two-integ
 
 -- ---- kinds with a list
 
-pub list-of : {e j : Entry} → e ≡ j → list_of j ≡ list_of e
-list-of g = rw g
+pub is_list_of : {e j : Entry} → e ≡ j → list_of j ≡ list_of e
+is_list_of g = rw g
 
 abbrev with-list : Parameters → CountedRun → Remembered → Answer Parsed
 with-list ps w kept = done (parsed_as ps w kept)

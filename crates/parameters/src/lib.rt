@@ -79,6 +79,7 @@ struct TwoEntries {
 
 // ---- entries
 
+#[tactic(auto, unfolding(refusals::specs::Answers::answer_at, crate::specs::Entries::entry_at))]
 fn read_character(kept: Remembered, s: &[u8], at: usize) -> Result<Taken<i32>, RefusedAt>
     ensures { answer_at result ≡ entry_at Entry.ACharacter kept s.now at }
 {
@@ -91,6 +92,7 @@ fn read_character(kept: Remembered, s: &[u8], at: usize) -> Result<Taken<i32>, R
 }
 
 // An integer, or a character as a number.
+#[tactic(auto, unfolding(crate::specs::Entries::entry_at))]
 fn read_entry(kept: Remembered, entry: Entry, s: &[u8], at: usize) -> Result<Taken<i32>, RefusedAt>
     ensures { answer_at result ≡ entry_at entry kept s.now at }
 {
@@ -101,6 +103,7 @@ fn read_entry(kept: Remembered, entry: Entry, s: &[u8], at: usize) -> Result<Tak
 }
 
 // So many entries from `at` on: where they end, or the first that is refused.
+#[tactic(auto, using(crate::proofs::Entering::passings))]
 fn pass_entries(
     kept: Remembered,
     entry: Entry,
@@ -118,6 +121,7 @@ fn pass_entries(
 }
 
 // The same, with their values into the front of the list.
+#[tactic(auto, using(crate::proofs::Entering::readings))]
 fn read_entries(
     kept: Remembered,
     entry: Entry,
@@ -139,6 +143,7 @@ fn read_entries(
 }
 
 // The first `count` entries into the front of the list.
+#[tactic(auto, using(crate::proofs::Entering::front_handed))]
 fn hand_over(entries: &[i32; 256], count: usize, list: &mut [i32])
     requires { (count ≤ 256) × ((count ≤ length entries.now) × (count ≤ length list.old)) }
     ensures { list.new ≡ sets list.old 0 (take count entries.now) }
@@ -147,6 +152,7 @@ fn hand_over(entries: &[i32; 256], count: usize, list: &mut [i32])
 }
 
 // So many entries from `at` on, which go to the list if they are whole.
+#[tactic(auto, using(crate::proofs::Entering::handed_over))]
 fn hand_entries(
     kept: Remembered,
     entry: Entry,
@@ -165,6 +171,7 @@ fn hand_entries(
 }
 
 // Bytes that are taken as they stand, as entries into the front of the list.
+#[tactic(auto, using(crate::proofs::Entering::layings))]
 fn lay_characters(w: &[u8], list: &mut [i32])
     requires { length w.now ≤ length list.old }
     ensures { list.new ≡ sets list.old 0 (map pos w.now) }
@@ -175,6 +182,7 @@ fn lay_characters(w: &[u8], list: &mut [i32])
 }
 
 // Whether so many characters stand from `at` on, each of which is taken as it stands.
+#[tactic(auto, using(crate::proofs::Entering::aheads))]
 fn characters_ahead(kept: Remembered, count: usize, s: &[u8], at: usize) -> bool
     ensures { result ≡ characters_ahead kept count s.now at }
 {
@@ -191,6 +199,7 @@ fn characters_ahead(kept: Remembered, count: usize, s: &[u8], at: usize) -> bool
 }
 
 // So many characters, straight from their bytes where each is taken as it stands.
+#[tactic(auto, using(crate::proofs::Entering::strings, crate::proofs::Entering::characters_few))]
 fn hand_characters(
     kept: Remembered,
     count: usize,
@@ -210,6 +219,7 @@ fn hand_characters(
 }
 
 // So many entries, which are only passed over where the list has no room for them.
+#[tactic(auto, using(crate::proofs::Entering::handed_over, crate::proofs::Entering::kinds))]
 fn entries_into(
     kept: Remembered,
     entry: Entry,
@@ -231,6 +241,7 @@ fn entries_into(
 }
 
 // A count and that many entries: a string or an array.
+#[tactic(auto, using(crate::proofs::Entering::count_few), unfolding(refusals::specs::Answers::answer_at, crate::specs::Entries::run_at, crate::specs::Entries::after_run, crate::specs::Entries::list_behind, refusals::specs::Answers::value_or))]
 fn read_run(
     kept: Remembered,
     entry: Entry,
@@ -252,6 +263,7 @@ fn read_run(
 // ---- each kind
 
 // What was read of a kind without a list.
+#[tactic(auto, unfolding(crate::specs::Looking::look_of))]
 fn without_list(parameters: Parameters, next: usize, kept: Remembered) -> TakenParameters
     ensures { look_of (Ok result) ≡ done (parsed_as parameters (record { start = 0; count = 0; next = next }) kept) }
 {
@@ -266,6 +278,7 @@ fn without_list(parameters: Parameters, next: usize, kept: Remembered) -> TakenP
     }
 }
 
+#[tactic(auto, unfolding(refusals::specs::Answers::answer_at, crate::specs::Looking::two_entries_at))]
 fn two_entries(kept: Remembered, entry: Entry, s: &[u8], at: usize) -> Result<TwoEntries, RefusedAt>
     ensures { answer_at result ≡ two_entries_at entry kept s.now at }
 {
@@ -278,6 +291,7 @@ fn two_entries(kept: Remembered, entry: Entry, s: &[u8], at: usize) -> Result<Tw
     })
 }
 
+#[tactic(auto, unfolding(refusals::specs::Answers::answer_at, crate::specs::Looking::look_of, crate::specs::Looking::parameters_at, crate::specs::Looking::fixed_at, crate::specs::Looking::part_at, crate::specs::Looking::tail_at, crate::specs::Entries::entry_at))]
 fn look_one_integer(kept: Remembered, s: &[u8], at: usize) -> Result<TakenParameters, RefusedAt>
     ensures { look_of result ≡ parameters_at kept (shape_of one_integer) s.now at }
 {
@@ -285,6 +299,7 @@ fn look_one_integer(kept: Remembered, s: &[u8], at: usize) -> Result<TakenParame
     Ok(without_list(Parameters::OneInteger(a.value), a.next, kept))
 }
 
+#[tactic(auto, unfolding(refusals::specs::Answers::answer_at, crate::specs::Looking::look_of, crate::specs::Looking::parameters_at, crate::specs::Looking::fixed_at, crate::specs::Looking::part_at, crate::specs::Looking::tail_at, crate::specs::Looking::two_entries_at))]
 fn look_two_integers(kept: Remembered, s: &[u8], at: usize) -> Result<TakenParameters, RefusedAt>
     ensures { look_of result ≡ parameters_at kept (shape_of two_integers) s.now at }
 {
@@ -292,6 +307,7 @@ fn look_two_integers(kept: Remembered, s: &[u8], at: usize) -> Result<TakenParam
     Ok(without_list(Parameters::TwoIntegers(read.one, read.two), read.next, kept))
 }
 
+#[tactic(auto, unfolding(refusals::specs::Answers::answer_at, crate::specs::Looking::look_of, crate::specs::Looking::parameters_at, crate::specs::Looking::fixed_at, crate::specs::Looking::part_at, crate::specs::Looking::tail_at))]
 fn look_real(kept: Remembered, s: &[u8], at: usize) -> Result<TakenParameters, RefusedAt>
     ensures { look_of result ≡ parameters_at kept (shape_of a_real) s.now at }
 {
@@ -303,6 +319,7 @@ fn look_real(kept: Remembered, s: &[u8], at: usize) -> Result<TakenParameters, R
     Ok(without_list(Parameters::AReal(real), read.next, kept))
 }
 
+#[tactic(auto, unfolding(refusals::specs::Answers::answer_at, crate::specs::Looking::look_of, crate::specs::Looking::parameters_at, crate::specs::Looking::fixed_at, crate::specs::Looking::part_at, crate::specs::Looking::tail_at, crate::specs::Looking::two_entries_at))]
 fn look_two_characters(kept: Remembered, s: &[u8], at: usize) -> Result<TakenParameters, RefusedAt>
     ensures { look_of result ≡ parameters_at kept (shape_of two_characters) s.now at }
 {
@@ -314,6 +331,7 @@ fn look_two_characters(kept: Remembered, s: &[u8], at: usize) -> Result<TakenPar
     ))
 }
 
+#[tactic(auto, unfolding(refusals::specs::Answers::answer_at, crate::specs::Looking::look_of, crate::specs::Looking::parameters_at, crate::specs::Looking::fixed_at, crate::specs::Looking::part_at, crate::specs::Looking::tail_at, crate::specs::Looking::two_entries_at, crate::specs::Entries::entry_at))]
 fn look_three_integers(kept: Remembered, s: &[u8], at: usize) -> Result<TakenParameters, RefusedAt>
     ensures { look_of result ≡ parameters_at kept (shape_of three_integers) s.now at }
 {
@@ -323,6 +341,7 @@ fn look_three_integers(kept: Remembered, s: &[u8], at: usize) -> Result<TakenPar
     Ok(without_list(parameters, third.next, kept))
 }
 
+#[tactic(auto, unfolding(refusals::specs::Answers::answer_at, crate::specs::Looking::look_of, crate::specs::Looking::parameters_at, crate::specs::Looking::fixed_at, crate::specs::Looking::part_at, crate::specs::Looking::tail_at))]
 fn look_one_point(kept: Remembered, s: &[u8], at: usize) -> Result<TakenParameters, RefusedAt>
     ensures { look_of result ≡ parameters_at kept (shape_of one_point) s.now at }
 {
@@ -332,6 +351,7 @@ fn look_one_point(kept: Remembered, s: &[u8], at: usize) -> Result<TakenParamete
 }
 
 // The second point follows from the first.
+#[tactic(auto, unfolding(refusals::specs::Answers::answer_at, crate::specs::Looking::look_of, crate::specs::Looking::parameters_at, crate::specs::Looking::fixed_at, crate::specs::Looking::part_at, crate::specs::Looking::tail_at))]
 fn look_two_points(kept: Remembered, s: &[u8], at: usize) -> Result<TakenParameters, RefusedAt>
     ensures { look_of result ≡ parameters_at kept (shape_of two_points) s.now at }
 {
@@ -362,6 +382,7 @@ fn integer_then_list(a: i32, entry: Entry) -> Parameters
 }
 
 // The parameters that are a string or an array alone.
+#[tactic(auto, unfolding(refusals::specs::Answers::answer_at, crate::specs::Looking::look_of, crate::specs::Looking::parameters_at, crate::specs::Looking::fixed_at, crate::specs::Looking::part_at, crate::specs::Looking::tail_at, crate::specs::Looking::after_look, crate::specs::Entries::after_run))]
 fn look_list(
     kept: Remembered,
     entry: Entry,
@@ -380,6 +401,7 @@ fn look_list(
 }
 
 // An integer, then a string or an array.
+#[tactic(auto, unfolding(refusals::specs::Answers::answer_at, crate::specs::Looking::look_of, crate::specs::Looking::parameters_at, crate::specs::Looking::fixed_at, crate::specs::Looking::part_at, crate::specs::Looking::tail_at, crate::specs::Looking::after_look, crate::specs::Entries::after_run, crate::specs::Entries::entry_at))]
 fn look_integer_then_list(
     kept: Remembered,
     entry: Entry,
@@ -400,6 +422,7 @@ fn look_integer_then_list(
 
 // The parameters of a command of this kind, from `at` on. The entries of a string or an array go to the list if all is good and
 // it has room for all of them.
+#[tactic(auto, using(crate::proofs::Looks::of_kinds))]
 pub fn look_at(
     kept: Remembered,
     kind: Kind,
@@ -448,6 +471,15 @@ pub fn last_point(parameters: Parameters) -> Option<Point>
 }
 
 // Numbers, and 0 in what is left of the four.
+fn one_number(a: i32) -> Numbers
+    ensures { result ≡ record { values = a ∷ pos 0 ∷ pos 0 ∷ pos 0 ∷ []; len = 1 } }
+{
+    Numbers {
+        values: [a, 0, 0, 0],
+        len: 1,
+    }
+}
+
 fn two_numbers(a: i32, b: i32) -> Numbers
     ensures { result ≡ record { values = a ∷ b ∷ pos 0 ∷ pos 0 ∷ []; len = 2 } }
 {
@@ -458,27 +490,18 @@ fn two_numbers(a: i32, b: i32) -> Numbers
 }
 
 // The fixed parameters as numbers.
+#[tactic(auto, unfolding(crate::specs::Numbers::four_of))]
 pub fn numbers_of(parameters: Parameters) -> Numbers
     ensures { Holds (values_of parameters) result }
 {
     match parameters {
-        Parameters::AString | Parameters::AnArray => Numbers {
-            values: [0, 0, 0, 0],
-            len: 0,
-        },
-        Parameters::OneInteger(a)
-        | Parameters::IntegerThenArray(a)
-        | Parameters::IntegerThenString(a) => Numbers {
-            values: [a, 0, 0, 0],
-            len: 1,
-        },
-        Parameters::TwoIntegers(a, b) | Parameters::TwoCharacters(a, b) => two_numbers(a, b),
-        Parameters::AReal(r) => two_numbers(r.mantissa, r.exponent),
-        Parameters::OnePoint(p) => two_numbers(i32::from(p.x), i32::from(p.y)),
+        Parameters::OneInteger(a) => one_number(a),
+        Parameters::TwoIntegers(a, b) => two_numbers(a, b),
         Parameters::ThreeIntegers(a, b, c) => Numbers {
             values: [a, b, c, 0],
             len: 3,
         },
+        Parameters::OnePoint(p) => two_numbers(i32::from(p.x), i32::from(p.y)),
         Parameters::TwoPoints(p, q) => Numbers {
             values: [
                 i32::from(p.x),
@@ -488,5 +511,13 @@ pub fn numbers_of(parameters: Parameters) -> Numbers
             ],
             len: 4,
         },
+        Parameters::AReal(r) => two_numbers(r.mantissa, r.exponent),
+        Parameters::AString | Parameters::AnArray => Numbers {
+            values: [0, 0, 0, 0],
+            len: 0,
+        },
+        Parameters::IntegerThenArray(a) => one_number(a),
+        Parameters::IntegerThenString(a) => one_number(a),
+        Parameters::TwoCharacters(a, b) => two_numbers(a, b),
     }
 }
