@@ -62,8 +62,6 @@ module _ (vs : List ℤ) where
   string_laid l at {w} {m} {o} h ew em eo =
       eo ∙ rw (em, ew, all_bytes 32 vs h) (sets_append (spell_report_of (length vs) false) (as_bytes vs) l at)
 
-pub ruleset integers = (outside, none_changed, not_report, accepted, standing, a_report, report_spelled)
-
 pub ruleset sendings = (written-so, none_changed, all_changed, before_end, string_long, string_laid)
 
 pub ruleset strings = (outside, none_changed, accepted, too_long, no_characters, a-string, all_characters)

@@ -127,7 +127,6 @@ fn spell(mag: u32, negative: bool) -> [u8; 3]
 }
 
 // 8 for a value outside -65535..65535, then 7.
-#[tactic(auto, using(crate::proofs::Writings::integers))]
 pub fn write_integer(v: i32, out: &mut [u8], at: usize) -> Result<usize, Refusal>
     ensures { (answer_of result ≡ write_report v (length out.old) at) × (out.new ≡ after_write (answer_of result) (spell_report v) out.old at) }
 {
@@ -157,8 +156,11 @@ fn send_string(list: &[i32], out: &mut [u8], at: usize) -> Result<usize, Refusal
 pub fn write_string(list: &[i32], out: &mut [u8], at: usize) -> Result<usize, Refusal>
     ensures { (answer_of result ≡ write_string list.now (length out.old) at) × (out.new ≡ after_write (answer_of result) (spell_string list.now) out.old at) }
 {
-    if list.len() > MOST_CHARACTERS || !characters::are_characters(list) {
+    if list.len() > MOST_CHARACTERS {
         return Err(Refusal::NotValid);
     }
-    send_string(list, out, at)
+    if characters::are_characters(list) {
+        return send_string(list, out, at);
+    }
+    Err(Refusal::NotValid)
 }
