@@ -33,6 +33,7 @@ pub fn ardh_read_integer_report(
     }
 }
 
+// As for an integer, but a list and its count: for both, a helper would take a pair, its default and two slots, which is no plainer.
 #[tactic(auto, unfolding(refusals::specs::Answers::answer_at, refusals::specs::Answers::number, refusals::specs::Answers::value_or, refusals::specs::Answers::place_of))]
 pub fn ardh_read_string_report(
     bytes: &[u8],

@@ -82,7 +82,7 @@ fn characters_end(s: &[u8], at: usize, count: usize) -> Result<usize, RefusedAt>
     ensures { answer_at result ≡ characters_end count s.now at }
 {
     let mut pos = at;
-    for i in 0..count {
+    for _i in 0..count {
         pos = byte_within(32, 127, s, pos)?.next;
     }
     Ok(pos)
