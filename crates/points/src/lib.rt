@@ -63,7 +63,8 @@ fn point_of(b: PointBytes) -> Point
     }
 }
 
-// ---- reading: each function stands behind the bytes that it is named by, `b` being those in force
+// ---- reading: each function stands behind the bytes that it is named by, `b` being those in force. What they share they take as `wire::take`
+// does: a struct of it would be made for that call alone. Which kinds of byte may follow differs in each, so one function for all is no plainer.
 
 // The point is whole with its LoX.
 #[tactic(auto, unfolding(refusals::specs::Answers::answer_at, crate::specs::Reading::ends_at))]
@@ -205,7 +206,8 @@ pub fn read_point(kept: Remembered, s: &[u8], at: usize) -> Result<Taken<Point>,
 
 // ---- writing
 
-// One byte of a point behind `n` others, or nothing where it is left out. Answers how many they then are.
+// One byte of a point behind `n` others, or nothing where it is left out. Answers how many they then are. At four of five calls `omit` is a value
+// that is at hand: an `if` at each is no plainer.
 #[tactic(auto, using(crate::proofs::Spelling::parts))]
 fn pour_part(kept: Remembered, n: usize, omit: bool, b: u8, out: &mut [u8], at: usize) -> usize
     requires { n ≤ 8 }

@@ -42,3 +42,5 @@ filling_more s at count l₀ l i x f h e =
 
 pub filling_end : (s : List ℕ) (at count : ℕ) (l₀ l : List ℤ) (i : ℕ) → Filling s at count l₀ l i → count ≤ i → l ≡ sets l₀ 0 (entries_at count s at)
 filling_end s at count l₀ l i f h = let z : count - i ≡ 0 = omega arith in rw z at f.whole
+
+pub ruleset filling = (filling_none, filling_more, filling_end)

@@ -3,4 +3,3 @@ pub mod Filling
 pub mod Writings
 pub mod RoundTrip
 pub mod Back
-pub mod Coinciding

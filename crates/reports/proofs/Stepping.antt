@@ -3,31 +3,24 @@ use Prim.Native.Nat.{ℕ, zero, suc, ◌+◌, ◌-◌, ◌≤◌, ◌<◌}
 use mathlib.Core.Path.{◌≡◌, refl, sym, ◌∙◌, ap}
 use mathlib.Core.List.{List}
 use native.Mathlib.Omega.{arith}
-use borrow.Author.Tests.{lt-ltb, le-ltb, le-leb, lt-leb, ltb-true, ltb-false}
+use borrow.Author.Tests.{le-leb, lt-leb, ltb-true, ltb-false}
 use lib.Dec.{ltb, leb}
 use lib.ListN.{length, get_or}
 use lib.Seq.{sets}
 use lib.IntN.{ℤ, nat_abs}
-use Rattle.refusals.specs.declared.Refusal.{Refusal}
-use Rattle.refusals.specs.declared.Refusal.TheVariants.{NotValid, TooShort}
+use Rattle.refusals.specs.declared.Refusal.TheVariants.{TooShort}
+use Rattle.refusals.specs.declared.RefusedAt.{RefusedAt}
 use Rattle.refusals.specs.declared.Taken.{Taken}
-use Rattle.refusals.specs.Answers.{Answer, done, refused, ends_after}
+use Rattle.refusals.specs.Answers.{Answer, done, refused, answer_at, ends_after}
 use Rattle.refusals.proofs.Cases.{by_pick, by_then, Done, done-of, done-map, is-done, not_done}
 use Rattle.refusals.proofs.Many.{passed_all, passed_one, passed_none}
-use Rattle.wire.specs.declared.ByteRead.{ByteRead}
-use Rattle.wire.specs.declared.TakenByte.{TakenByte}
-use Rattle.wire.specs.Taking.{byte_of}
-use Rattle.numbers.specs.declared.IntegerRead.TheVariants as IntegerRead
-use Rattle.numbers.specs.declared.CountRead.{CountRead}
-use Rattle.numbers.specs.declared.TakenCount.{TakenCount}
+use Rattle.std.specs.Prelude.{Result, Ok, Err}
 use Rattle.signs.specs.Signs.{is_negative}
-use Rattle.numbers.specs.Integers.{integer_of}
-use Rattle.numbers.specs.Counts.{count_in, count_of}
-use Rattle.reports.specs.declared.StringRead.TheVariants as StringRead
-use Rattle.reports.specs.declared.RunEnd.{RunEnd}
-use Rattle.reports.specs.Reading.{byte_within, report_value, report_from, report_at, string_of, run_end_of, characters_end, string_at, entries_at, after_string}
+use Rattle.numbers.specs.Counts.{count_in}
+use Rattle.reports.specs.declared.TakenString.{TakenString}
+use Rattle.reports.specs.Reading.{byte_within, report_from, report_at, characters_end, string_at, entries_at, after_string}
 
--- ---- a byte byte_within its bounds
+-- ---- a byte within its bounds
 
 pub record Stood (least most : ℕ) (s : List ℕ) (at : ℕ) (r : Taken ℕ) : Type 0 where
   pub low : least ≤ r.value
@@ -59,60 +52,42 @@ stood least most s at =
 pub stood_of : (least most : ℕ) (s : List ℕ) (at : ℕ) {r : Taken ℕ} → byte_within least most s at ≡ done r → Stood least most s at r
 stood_of least most s at e = done-of (Stood least most s at) (stood least most s at) e
 
-module _ (least most : ℕ) (s : List ℕ) (at : ℕ) {r : ByteRead} (e : byte_of r ≡ byte_within least most s at) where
-  given : {b : TakenByte} → r ≡ ByteRead.Byte b → byte_within least most s at ≡ done (record { value = b.value; place = b.place; next = b.next })
-  unfolding byte_of
-  given g = sym e ∙ rw g
+module _ (least most : ℕ) (s : List ℕ) (at : ℕ) {r : Result (Taken ℕ) RefusedAt} (e : answer_at r ≡ byte_within least most s at) {b : Taken ℕ} (g : r ≡ Ok b) where
+  given : byte_within least most s at ≡ done b
+  unfolding answer_at
+  given = sym e ∙ rw g
 
-  pub at_least : {b : TakenByte} → r ≡ ByteRead.Byte b → least ≤ b.value
-  at_least g = (stood_of least most s at (given g)).low
+  pub at_least : least ≤ b.value
+  at_least = (stood_of least most s at given).low
 
-  pub at_most : {b : TakenByte} → r ≡ ByteRead.Byte b → b.value ≤ most
-  at_most g = (stood_of least most s at (given g)).high
+  pub at_most : b.value ≤ most
+  at_most = (stood_of least most s at given).high
 
--- ---- an integer report
+-- ---- a run of characters, of which i have been read up to pos
 
-module _ (s : List ℕ) (at : ℕ) {a : ByteRead} (ea : byte_of a ≡ byte_within 32 95 s at) where
-  pub first-no : {x : Refusal} {p : ℕ} → a ≡ ByteRead.Refused x p → integer_of (IntegerRead.Refused x p) ≡ report_from s at
-  unfolding report_from byte_of integer_of
-  first-no g = rw (← ea, g)
+pub record Running (k : ℕ) (s : List ℕ) (at i pos : ℕ) : Type 0 where
+  pub left : characters_end (k - i) s pos ≡ characters_end k s at
 
-  module _ {x₁ : TakenByte} (ga : a ≡ ByteRead.Byte x₁) {b : ByteRead} (eb : byte_of b ≡ byte_within 32 95 s x₁.next) where
-    pub second-no : {x : Refusal} {q : ℕ} → b ≡ ByteRead.Refused x q → integer_of (IntegerRead.Refused x q) ≡ report_from s at
-    unfolding report_from byte_of integer_of
-    second-no g = rw (← ea, ga, ← eb, g)
+module _ (k : ℕ) (s : List ℕ) (at : ℕ) where
+  pub running_none : Running k s at 0 at
+  running_none = let z : k - 0 ≡ k = omega arith in record { left = rw z }
 
-    module _ {x₂ : TakenByte} (gb : b ≡ ByteRead.Byte x₂) {c : ByteRead} (ec : byte_of c ≡ byte_within 32 63 s x₂.next) where
-      pub low_no : {x : Refusal} {q : ℕ} → c ≡ ByteRead.Refused x q → integer_of (IntegerRead.Refused x q) ≡ report_from s at
-      unfolding report_from byte_of integer_of
-      low_no g = rw (← ea, ga, ← eb, gb, ← ec, g)
+  pub running_end : (i pos : ℕ) → Running k s at i pos → k ≤ i → answer_at (Ok pos) ≡ characters_end k s at
+  unfolding answer_at
+  running_end i pos f h = passed_all (byte_within 32 127 s) (k - i) pos (omega arith) f.left
 
-      pub report_is : (x : ℤ) {y : ℤ} {x₃ : TakenByte} → c ≡ ByteRead.Byte x₃ → y ≡ report_value x₁.value x₂.value x₃.value → x ≡ y → integer_of (IntegerRead.Integer (record { value = x; place = x₃.place; next = x₃.next })) ≡ report_from s at
-      unfolding report_from byte_of integer_of
-      report_is x g j i = rw (i, j, ← ea, ga, ← eb, gb, ← ec, g)
+  module _ (i pos : ℕ) {r : Result (Taken ℕ) RefusedAt} (f : Running k s at i pos) (h : i < k) (e : answer_at r ≡ byte_within 32 127 s pos) where
+    pub running_more : {b : Taken ℕ} → r ≡ Ok b → Running k s at (i + 1) b.next
+    running_more {b} g =
+        let z : k - i - 1 ≡ k - (i + 1) = omega arith in
+        let q = passed_one (byte_within 32 127 s) (k - i) pos (given 32 127 s pos e g) (omega arith) f.left in
+        record { left = rw z at q }
 
-pub start-past : (s : List ℕ) (at : ℕ) → length s < at → integer_of (IntegerRead.Refused NotValid 0) ≡ report_at s at
-unfolding report_at integer_of
-start-past s at h = rw (lt-ltb (length s) at h)
+    pub running_cut : {x : RefusedAt} → r ≡ Err x → answer_at {A = ℕ} (Err x) ≡ characters_end k s at
+    unfolding answer_at
+    running_cut g = passed_none (byte_within 32 127 s) (k - i) pos (sym e ∙ rw g) (omega arith) f.left
 
-pub start-inside : (s : List ℕ) (at : ℕ) {q : Answer (Taken ℤ)} → at ≤ length s → q ≡ report_from s at → q ≡ report_at s at
-unfolding report_at
-start-inside s at h j = rw (le-ltb (length s) at h) j
-
--- ---- a run of characters
-
-module _ (k : ℕ) (s : List ℕ) (at : ℕ) {q : Answer ℕ} where
-  pub run-done : k ≤ 0 → characters_end k s at ≡ q → run_end_of (RunEnd.End at) ≡ q
-  unfolding run_end_of
-  run-done h j = passed_all (byte_within 32 127 s) k at h j
-
-  module _ {r : ByteRead} (e : byte_of r ≡ byte_within 32 127 s at) (h : 0 < k) (j : characters_end k s at ≡ q) where
-    pub run_more : {b : TakenByte} → r ≡ ByteRead.Byte b → characters_end (k - 1) s b.next ≡ q
-    run_more g = passed_one (byte_within 32 127 s) k at (given 32 127 s at e g) h j
-
-    pub run-refused : {x : Refusal} {p : ℕ} → r ≡ ByteRead.Refused x p → run_end_of (RunEnd.Refused x p) ≡ q
-    unfolding byte_of run_end_of
-    run-refused g = passed_none (byte_within 32 127 s) k at (sym e ∙ rw g) h j
+pub ruleset running = (running_none, running_end, running_more, running_cut)
 
 -- where a run ends, and that it stays byte_within
 Ends : List ℕ → ℕ → ℕ → ℕ → Type 0
@@ -168,45 +143,47 @@ behind most P (refused e p) h = tt
 
 -- ---- a string report
 
-module _ (s : List ℕ) (at : ℕ) {i : Answer (Taken ℤ)} (c : CountRead) (ei : i ≡ report_at s at) (ec : count_of c ≡ count_in 256 i) where
-  counted : count_in 256 (report_at s at) ≡ count_of c
+module _ (s : List ℕ) (at : ℕ) {i : Answer (Taken ℤ)} (c : Result (Taken ℕ) RefusedAt) (ei : i ≡ report_at s at) (ec : answer_at c ≡ count_in 256 i) where
+  counted : count_in 256 (report_at s at) ≡ answer_at c
   counted = rw (← ei) (sym ec)
 
-  pub string_no : (room : ℕ) {x : Refusal} {p : ℕ} → c ≡ CountRead.Refused x p → string_of (StringRead.Refused x p) ≡ string_at s at room
-  unfolding string_at string_of count_of
+  pub string_no : (room : ℕ) {x : RefusedAt} → c ≡ Err x → answer_at {A = TakenString} (Err x) ≡ string_at s at room
+  unfolding string_at answer_at
   string_no room g = rw (counted, g)
 
-  module _ {t : TakenCount} (g : c ≡ CountRead.Count t) where
-    found : count_in 256 (report_at s at) ≡ done (record { value = t.value; place = t.place; next = t.next })
-    unfolding count_of
+  module _ {t : Taken ℕ} (g : c ≡ Ok t) where
+    found : count_in 256 (report_at s at) ≡ done t
+    unfolding answer_at
     found = counted ∙ rw g
 
     next-three : (t.next ≡ at + 3) × (at + 3 ≤ length s)
     unfolding Three
     next-three = done-of (λ (r : Taken ℕ). (r.next ≡ at + 3) × (at + 3 ≤ length s)) (behind 256 (λ m. (m ≡ at + 3) × (at + 3 ≤ length s)) (report_at s at) (three s at)) found
 
-    module _ {e : RunEnd} (ee : run_end_of e ≡ characters_end t.value s t.next) where
-      pub characters-refused : (room : ℕ) {x : Refusal} {q : ℕ} → e ≡ RunEnd.Refused x q → string_of (StringRead.Refused x q) ≡ string_at s at room
-      unfolding string_at string_of run_end_of
+    module _ {e : Result ℕ RefusedAt} (ee : answer_at e ≡ characters_end t.value s t.next) where
+      pub characters-refused : (room : ℕ) {x : RefusedAt} → e ≡ Err x → answer_at {A = TakenString} (Err x) ≡ string_at s at room
+      unfolding string_at answer_at
       characters-refused room h = rw (found, ← ee, h)
 
-      module _ {m : ℕ} (h : e ≡ RunEnd.End m) where
-        pub string_short : (room : ℕ) → room < t.value → string_of (StringRead.Refused TooShort at) ≡ string_at s at room
-        unfolding string_at string_of run_end_of
-        string_short room l = rw (found, ← ee, h, lt-leb t.value room l)
+      module _ {m : ℕ} (h : e ≡ Ok m) where
+        pub string_short : (room : ℕ) {x : RefusedAt} → x ≡ record { refusal = TooShort; place = at } → room < t.value → answer_at {A = TakenString} (Err x) ≡ string_at s at room
+        unfolding string_at answer_at
+        string_short room j l = rw (found, ← ee, h, j, lt-leb t.value room l)
 
-        pub string_held : (room : ℕ) → t.value ≤ room → string_of (StringRead.Entries (record { count = t.value; next = m })) ≡ string_at s at room
-        unfolding string_at string_of run_end_of
+        pub string_held : (room : ℕ) → t.value ≤ room → answer_at (Ok (record { count = t.value; next = m })) ≡ string_at s at room
+        unfolding string_at answer_at
         string_held room l = rw (found, ← ee, h, le-leb t.value room l)
 
         pub run_fits : t.next + t.value ≤ length s
-        unfolding run_end_of
+        unfolding answer_at
         run_fits = let h₃ = next-three in (run-within t.value s t.next m (omega (arith, h₃.0, h₃.1)) (sym ee ∙ rw h)).1
 
-        pub string_stands : (l : List ℤ) {o : List ℤ} → o ≡ sets l 0 (entries_at t.value s t.next) → o ≡ after_string (string_of (StringRead.Entries (record { count = t.value; next = m }))) s at l
-        unfolding after_string string_of
+        pub string_stands : (l : List ℤ) {o : List ℤ} → o ≡ sets l 0 (entries_at t.value s t.next) → o ≡ after_string (answer_at (Ok (record { count = t.value; next = m }))) s at l
+        unfolding after_string answer_at
         string_stands l j = j ∙ ap (λ (a : ℕ). sets l 0 (entries_at t.value s a)) next-three.0
 
-pub string_kept : (e : Refusal) (p : ℕ) (s : List ℕ) (at : ℕ) (l : List ℤ) → l ≡ after_string (string_of (StringRead.Refused e p)) s at l
-unfolding after_string string_of
-string_kept e p s at l = refl
+pub string_kept : (x : RefusedAt) (s : List ℕ) (at : ℕ) (l : List ℤ) → l ≡ after_string (answer_at (Err x)) s at l
+unfolding after_string answer_at
+string_kept x s at l = refl
+
+pub ruleset strings = (string_no, characters-refused, string_short, string_held, run_fits, string_stands, string_kept)

@@ -12,6 +12,7 @@ use mir.Syntax.{w32}
 use mir.Val.{SFits, to_z, of_z}
 use mir.Facts.{to_z-of_z}
 use Rattle.refusals.proofs.Many.{sets_append}
+use Rattle.wire.proofs.Writings.{written-so, none_changed, all_changed, before_end, outside, accepted, standing}
 use Rattle.signs.specs.Signs.{is_negative}
 use Rattle.characters.specs.Characters.{are_characters, as_bytes, low_bytes}
 use Rattle.characters.proofs.Entries.{all_bytes}
@@ -60,3 +61,7 @@ module _ (vs : List ℤ) where
   unfolding spell_string
   string_laid l at {w} {m} {o} h ew em eo =
       eo ∙ rw (em, ew, all_bytes 32 vs h) (sets_append (spell_report_of (length vs) false) (as_bytes vs) l at)
+
+pub ruleset sendings = (written-so, none_changed, all_changed, before_end, string_long, string_laid)
+
+pub ruleset strings = (outside, none_changed, accepted, too_long, no_characters, a-string, all_characters)

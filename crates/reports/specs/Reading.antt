@@ -3,15 +3,12 @@
 -- commands (27 is 3 here, and there are no pairs), then 7, at the start, only for a whole report."
 use Rattle.std.specs.Prelude.{ℕ, ◌+◌, ◌-◌, ◌*◌, ◌%◌, List, length, get_or, take, drop, ltb, leb, ℤ}
 use Rattle.std.proofs.lemmas.List.Edits.{sets}
-use Rattle.refusals.specs.Refusals.{number_of}
 use Rattle.refusals.specs.declared.Taken.{Taken}
 use Rattle.refusals.specs.Answers.{Answer, done, refused, then, pick, ends_after}
 use Rattle.signs.specs.Signs.{signed_of}
 use Rattle.numbers.specs.Counts.{count_in}
 use Rattle.characters.specs.Characters.{as_entries}
-use Rattle.reports.specs.declared.StringRead.{StringRead}
 use Rattle.reports.specs.declared.TakenString.{TakenString}
-use Rattle.reports.specs.declared.RunEnd.{RunEnd}
 
 -- a byte from least to most, as it stands
 unfoldable pub byte_within : ℕ → ℕ → List ℕ → ℕ → Answer (Taken ℕ)
@@ -39,16 +36,7 @@ report_at s at = pick (ltb (length s) at) (refused 8 0) (report_from s at)
 
 -- ---- string reports
 
--- what the answer says
-unfoldable pub string_of : StringRead → Answer TakenString
-string_of (StringRead.Entries t) = done t
-string_of (StringRead.Refused e p) = refused (number_of e) p
-
 -- where a run of characters ends
-unfoldable pub run_end_of : RunEnd → Answer ℕ
-run_end_of (RunEnd.End n) = done n
-run_end_of (RunEnd.Refused e p) = refused (number_of e) p
-
 abbrev pub characters_end : ℕ → List ℕ → ℕ → Answer ℕ
 characters_end k s at = ends_after (byte_within 32 127 s) k at
 

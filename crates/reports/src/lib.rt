@@ -4,16 +4,13 @@
 
 ghost use Rattle.std.specs.Prelude.{◌≡◌, ◌≤◌, ◌+◌, true, length};
 ghost use Rattle.std.proofs.lemmas.List.Edits.{sets};
-ghost use Rattle.wire.specs.Taking.{byte_of};
-ghost use Rattle.wire.specs.Sending.{write_at, after_write, written_of};
-ghost use Rattle.numbers.specs.Integers.{integer_of};
+ghost use Rattle.refusals.specs.Answers.{answer_at, answer_of};
+ghost use Rattle.wire.specs.Sending.{write_at, after_write};
 ghost use Rattle.characters.specs.Characters.{are_characters};
-ghost use Rattle.reports.specs.Reading.{byte_within, report_value, report_from, report_at, run_end_of, characters_end, string_of, string_at, after_string, entries_at};
+ghost use Rattle.reports.specs.Reading.{byte_within, report_value, report_from, report_at, characters_end, string_at, after_string, entries_at};
 ghost use Rattle.reports.specs.Writing.{spell_report_of, spell_report, write_report, spell_string, write_string};
 
-use numbers::{CountRead, IntegerRead, TakenInteger};
-use refusals::Refusal;
-use wire::{ByteRead, TakenByte, Written};
+use refusals::{Refusal, RefusedAt, Taken};
 
 // "A string report is such a length, 0..256."
 const MOST_CHARACTERS: usize = 256;
@@ -25,41 +22,23 @@ pub struct TakenString {
     pub next: usize,
 }
 
-#[derive(Clone, Copy)]
-pub enum StringRead {
-    Entries(TakenString),
-    // the refusal and its place
-    Refused(Refusal, usize),
-}
-
-// Where a run of characters ends, or the first byte that is none.
-#[derive(Clone, Copy)]
-enum RunEnd {
-    End(usize),
-    Refused(Refusal, usize),
-}
-
 // A byte from `least` to `most`.
-fn byte_within(least: u8, most: u8, s: &[u8], at: usize) -> ByteRead
-    ensures { byte_of result ≡ byte_within least most s.now at }
+#[tactic(auto, using(refusals::proofs::Rules::tests), unfolding(refusals::specs::Answers::answer_at, crate::specs::Reading::byte_within))]
+fn byte_within(least: u8, most: u8, s: &[u8], at: usize) -> Result<Taken<u8>, RefusedAt>
+    ensures { answer_at result ≡ byte_within least most s.now at }
 {
     if at >= s.len() {
-        return ByteRead::Refused(Refusal::BytesEnd, s.len());
+        return Err(Refusal::BytesEnd.at(s.len()));
     }
-    let b = s[at];
-    if b < least {
-        return ByteRead::Refused(Refusal::ByteNotAllowed, at);
+    let value = s[at];
+    if value < least || value > most {
+        return Err(Refusal::ByteNotAllowed.at(at));
     }
-    if b > most {
-        return ByteRead::Refused(Refusal::ByteNotAllowed, at);
-    }
-    let next = at + 1;
-    let byte = TakenByte {
-        value: b,
+    Ok(Taken {
+        value,
         place: at,
-        next: next,
-    };
-    ByteRead::Byte(byte)
+        next: at + 1,
+    })
 }
 
 // The number of two high bytes, each less 32, and a low byte.
@@ -69,97 +48,72 @@ fn value_of(first: u8, second: u8, low: u8) -> i32
 {
     let high = (first - 32) as u16 * 1024;
     let middle = (second - 32) as u16 * 16;
-    let sum = high + middle;
-    let mag = sum + (low % 16) as u16;
-    signs::signed(mag, low < 48)
+    signs::signed(high + middle + (low % 16) as u16, low < 48)
 }
 
-fn integer_from(s: &[u8], at: usize) -> IntegerRead
-    ensures { integer_of result ≡ report_from s.now at }
+#[tactic(auto, using(crate::proofs::Stepping::at_least, crate::proofs::Stepping::at_most), unfolding(refusals::specs::Answers::answer_at, crate::specs::Reading::report_from))]
+fn integer_from(s: &[u8], at: usize) -> Result<Taken<i32>, RefusedAt>
+    ensures { answer_at result ≡ report_from s.now at }
 {
-    match byte_within(32, 95, s, at) {
-        ByteRead::Byte(first) => match byte_within(32, 95, s, first.next) {
-            ByteRead::Byte(second) => match byte_within(32, 63, s, second.next) {
-                ByteRead::Byte(low) => {
-                    let integer = TakenInteger {
-                        value: value_of(first.value, second.value, low.value),
-                        place: low.place,
-                        next: low.next,
-                    };
-                    IntegerRead::Integer(integer)
-                }
-                ByteRead::Refused(e, p) => IntegerRead::Refused(e, p),
-            },
-            ByteRead::Refused(e, p) => IntegerRead::Refused(e, p),
-        },
-        ByteRead::Refused(e, p) => IntegerRead::Refused(e, p),
-    }
+    let first = byte_within(32, 95, s, at)?;
+    let second = byte_within(32, 95, s, first.next)?;
+    let low = byte_within(32, 63, s, second.next)?;
+    Ok(Taken {
+        value: value_of(first.value, second.value, low.value),
+        place: low.place,
+        next: low.next,
+    })
 }
 
 // 8 at place 0 for a start past the end, then 1 and 3.
-pub fn read_integer(s: &[u8], at: usize) -> IntegerRead
-    ensures { integer_of result ≡ report_at s.now at }
+#[tactic(auto, using(refusals::proofs::Rules::tests), unfolding(refusals::specs::Answers::answer_at, crate::specs::Reading::report_at))]
+pub fn read_integer(s: &[u8], at: usize) -> Result<Taken<i32>, RefusedAt>
+    ensures { answer_at result ≡ report_at s.now at }
 {
     if at > s.len() {
-        return IntegerRead::Refused(Refusal::NotValid, 0);
+        return Err(Refusal::NotValid.at(0));
     }
     integer_from(s, at)
 }
 
 // `count` characters from `at` on.
-fn characters_end(s: &[u8], at: usize, count: usize) -> RunEnd
-    ensures { run_end_of result ≡ characters_end count s.now at }
+#[tactic(auto, using(crate::proofs::Stepping::running))]
+fn characters_end(s: &[u8], at: usize, count: usize) -> Result<usize, RefusedAt>
+    ensures { answer_at result ≡ characters_end count s.now at }
 {
-    let mut left = count;
     let mut pos = at;
-    while left > 0 {
-        match byte_within(32, 127, s, pos) {
-            ByteRead::Byte(byte) => {
-                pos = byte.next;
-                left = left - 1;
-            }
-            ByteRead::Refused(e, p) => {
-                return RunEnd::Refused(e, p);
-            }
-        }
+    for _i in 0..count {
+        pos = byte_within(32, 127, s, pos)?.next;
     }
-    RunEnd::End(pos)
+    Ok(pos)
 }
 
 // The bytes of `s` from `at` on as the first `count` entries of the list.
+#[tactic(auto, using(crate::proofs::Filling::filling))]
 fn fill(s: &[u8], at: usize, count: usize, list: &mut [i32])
     requires { (at + count ≤ length s.now) × (count ≤ length list.old) }
     ensures { list.new ≡ sets list.old 0 (entries_at count s.now at) }
 {
-    let mut i = 0;
-    while i < count {
-        let from = at + i;
-        list[i] = characters::entry_of(s[from]);
-        i = i + 1;
+    for i in 0..count {
+        list[i] = characters::entry_of(s[at + i]);
     }
 }
 
 // As for an integer report, then 5 for the length, 1 and 3 for the characters, then 7 at the start.
-pub fn read_string(s: &[u8], at: usize, list: &mut [i32]) -> StringRead
-    ensures { (string_of result ≡ string_at s.now at (length list.old)) × (list.new ≡ after_string (string_of result) s.now at list.old) }
+#[tactic(auto, using(crate::proofs::Stepping::strings))]
+pub fn read_string(s: &[u8], at: usize, list: &mut [i32]) -> Result<TakenString, RefusedAt>
+    ensures { (answer_at result ≡ string_at s.now at (length list.old)) × (list.new ≡ after_string (answer_at result) s.now at list.old) }
 {
-    match numbers::as_count(read_integer(s, at), MOST_CHARACTERS) {
-        CountRead::Count(count) => match characters_end(s, count.next, count.value) {
-            RunEnd::End(end) => {
-                if count.value > list.len() {
-                    return StringRead::Refused(Refusal::TooShort, at);
-                }
-                fill(s, count.next, count.value, list);
-                let string = TakenString {
-                    count: count.value,
-                    next: end,
-                };
-                StringRead::Entries(string)
-            }
-            RunEnd::Refused(e, p) => StringRead::Refused(e, p),
-        },
-        CountRead::Refused(e, p) => StringRead::Refused(e, p),
+    let count = numbers::as_count(read_integer(s, at), MOST_CHARACTERS)?;
+    let next = characters_end(s, count.next, count.value)?;
+    if count.value > list.len() {
+        return Err(Refusal::TooShort.at(at));
     }
+    fill(s, count.next, count.value, list);
+    Ok(TakenString {
+        count: count.value,
+        next,
+    })
 }
 
 fn spell(mag: u32, negative: bool) -> [u8; 3]
@@ -173,44 +127,40 @@ fn spell(mag: u32, negative: bool) -> [u8; 3]
 }
 
 // 8 for a value outside -65535..65535, then 7.
-pub fn write_integer(v: i32, out: &mut [u8], at: usize) -> Written
-    ensures { (written_of result ≡ write_report v (length out.old) at) × (out.new ≡ after_write (written_of result) (spell_report v) out.old at) }
+pub fn write_integer(v: i32, out: &mut [u8], at: usize) -> Result<usize, Refusal>
+    ensures { (answer_of result ≡ write_report v (length out.old) at) × (out.new ≡ after_write (answer_of result) (spell_report v) out.old at) }
 {
     let mag = signs::magnitude(v);
     if mag > 65535 {
-        return Written::Refused(Refusal::NotValid);
+        return Err(Refusal::NotValid);
     }
     let bytes = spell(mag, signs::is_negative(v));
     wire::write_bytes(&bytes, out, at)
 }
 
 // The length and the characters behind it, from `at` on: all of them, or 7 and none.
-fn send_string(list: &[i32], out: &mut [u8], at: usize) -> Written
+#[tactic(auto, using(crate::proofs::Writings::sendings))]
+fn send_string(list: &[i32], out: &mut [u8], at: usize) -> Result<usize, Refusal>
     requires { (are_characters list.now ≡ true) × (length list.now ≤ 256) }
-    ensures { (written_of result ≡ write_at (spell_string list.now) (length out.old) at) × (out.new ≡ after_write (written_of result) (spell_string list.now) out.old at) }
+    ensures { (answer_of result ≡ write_at (spell_string list.now) (length out.old) at) × (out.new ≡ after_write (answer_of result) (spell_string list.now) out.old at) }
 {
-    let count = list.len();
-    match wire::room_for(3 + count, out.len(), at) {
-        Written::Next(next) => {
-            let length = spell(count as u32, false);
-            wire::copy(&length, out, at);
-            let from = at + 3;
-            characters::copy(list, out, from);
-            Written::Next(next)
-        }
-        Written::Refused(e) => Written::Refused(e),
-    }
+    let next = wire::room_for(3 + list.len(), out.len(), at)?;
+    let length = spell(list.len() as u32, false);
+    wire::copy(&length, out, at);
+    characters::copy(list, out, at + 3);
+    Ok(next)
 }
 
 // 8 for more than 256 entries or one that is no character, then 7.
-pub fn write_string(list: &[i32], out: &mut [u8], at: usize) -> Written
-    ensures { (written_of result ≡ write_string list.now (length out.old) at) × (out.new ≡ after_write (written_of result) (spell_string list.now) out.old at) }
+#[tactic(auto, using(crate::proofs::Writings::strings))]
+pub fn write_string(list: &[i32], out: &mut [u8], at: usize) -> Result<usize, Refusal>
+    ensures { (answer_of result ≡ write_string list.now (length out.old) at) × (out.new ≡ after_write (answer_of result) (spell_string list.now) out.old at) }
 {
     if list.len() > MOST_CHARACTERS {
-        return Written::Refused(Refusal::NotValid);
+        return Err(Refusal::NotValid);
     }
     if characters::are_characters(list) {
         return send_string(list, out, at);
     }
-    Written::Refused(Refusal::NotValid)
+    Err(Refusal::NotValid)
 }

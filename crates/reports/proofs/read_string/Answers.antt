@@ -1,18 +1,16 @@
-use Rattle.reports.proofs.Stepping.{string_no, characters-refused, string_short, string_held, run_fits, string_stands, string_kept}
+use Rattle.reports.proofs.Stepping.{run_fits, string_short, string_kept}
 use borrow.Author.Rules.{rules}
+use Rattle.std.specs.Prelude.{length}
 use Rattle.reports.proofs.read_string.Goals as goal
 
-pub returns-then-count-list : goal.returns-then-count-list
-returns-then-count-list c = search (rules, string_short, string_kept)
-
 pub fill-requires : goal.fill-requires
-fill-requires c = search (rules, run_fits)
+fill-requires c = (
+  run_fits c.args.s.now c.args.at c.as_count.result c.read_integer.ensures c.as_count.ensures c.in_ok-count.was c.characters_end.ensures c.in_ok-next.was,
+  search rules,
+)
 
-pub returns-else-count-list : goal.returns-else-count-list
-returns-else-count-list c = search (rules, string_held, string_stands)
-
-pub returns-in-Refused-characters_end : goal.returns-in-Refused-characters_end
-returns-in-Refused-characters_end c = search (rules, characters-refused, string_kept)
-
-pub returns-in-Refused : goal.returns-in-Refused
-returns-in-Refused c = search (rules, string_no, string_kept)
+pub returns-then-count-list : goal.returns-then-count-list
+returns-then-count-list c = (
+  string_short c.args.s.now c.args.at c.as_count.result c.read_integer.ensures c.as_count.ensures c.in_ok-count.was c.characters_end.ensures c.in_ok-next.was (length c.args.list.now) c.at.ensures c.if-count-list.true,
+  string_kept c.at.result c.args.s.now c.args.at c.args.list.now,
+)
