@@ -12,7 +12,7 @@ use lib.IntN.{ℤ, pos, negsuc, nat_abs}
 use lib.Signed.{non_neg}
 use mir.Syntax.{w8, w32}
 use mir.Val.{Fits, SFits, to_z, of_z}
-use mir.Facts.{to_z_pos}
+use mir.Facts.{to_z_pos, to_z-of_z}
 use Rattle.refusals.specs.Answers.{every}
 use Rattle.refusals.proofs.Many.{every-split}
 use Rattle.wire.specs.Sending.{in_room}
@@ -38,8 +38,8 @@ bits-low : (v : ℤ) → SFits w32 v → of_z w32 v % 256 ≡ low_eight v
 bits-low (pos n) f = refl
 bits-low (negsuc n) f = let h : n < 2147483648 = f.sfits in omega arith
 
-pub low-eight : (v : ℤ) → SFits w32 v → nat_abs (to_z w32 (bit_and (of_z w32 v) 255)) ≡ low_eight v
-low-eight v f = ap nat_abs (masked (of_z w32 v)) ∙ bits-low v f
+pub of_low_eight : (v : ℤ) → SFits w32 v → nat_abs (to_z w32 (bit_and (of_z w32 v) 255)) ≡ low_eight v
+of_low_eight v f = ap nat_abs (masked (of_z w32 v)) ∙ bits-low v f
 
 -- an entry of at most 127 is a byte
 module _ (least : ℕ) where
@@ -70,12 +70,16 @@ module _ (list : List ℤ) (out₀ out : List ℕ) (at i : ℕ) {count : ℕ} (f
   many : count ≡ in_room (length (low_bytes list)) (length out₀) at
   many = e ∙ rw (low_long list)
 
-  pub entry_copied : (v x : ℤ) {b : ℕ} → i < count → v ≡ get_or list i (pos 0) → b ≡ low_eight x → x ≡ v → Copying (low_bytes list) out₀ (set out (at + i) b) at (i + 1)
+  entry_copied : (v x : ℤ) {b : ℕ} → i < count → v ≡ get_or list i (pos 0) → b ≡ low_eight x → x ≡ v → Copying (low_bytes list) out₀ (set out (at + i) b) at (i + 1)
   entry_copied v x {b} h ev eb j =
       let k : b ≡ get_or (low_bytes list) i 0 = eb ∙ ap low_eight (j ∙ ev) ∙ sym (low_at list i) in
       rw (← k) at (copying_more (low_bytes list) out₀ out at i f many h)
 
+  -- an entry comes back from the callee's contract as the machine reads it
+  pub entry_laid : {b : ℕ} → i < count → SFits w32 (get_or list i (pos 0)) → b ≡ low_eight (to_z w32 (of_z w32 (get_or list i (pos 0)))) → Copying (low_bytes list) out₀ (set out (at + i) b) at (i + 1)
+  entry_laid h fits eb = entry_copied (get_or list i (pos 0)) _ h refl eb (to_z-of_z fits)
+
   pub entries-copied : count ≤ i → out ≡ sets out₀ at (low_bytes list)
   entries-copied h = copying_end (low_bytes list) out₀ out at i f many h
 
-pub ruleset entering = (copying_none, entry_copied, entries-copied)
+pub ruleset entering = (copying_none, entry_laid, entries-copied)

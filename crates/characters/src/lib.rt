@@ -5,6 +5,7 @@ ghost use Rattle.std.specs.Prelude.{◌≡◌, pos};
 ghost use Rattle.std.proofs.lemmas.List.Edits.{sets};
 ghost use Rattle.characters.specs.Characters.{is_character, are_characters, low_eight, low_bytes};
 
+#[tactic(auto, using(ranges::proofs::Entries::handed_on))]
 pub fn is_character(v: i32) -> bool
     ensures { result ≡ is_character v }
 {
@@ -18,6 +19,7 @@ pub fn are_characters(list: &[i32]) -> bool
 }
 
 // The byte of an entry: its lowest eight bits.
+#[tactic(auto, using(crate::proofs::Entries::masked_plus, crate::proofs::Entries::masked_narrow, crate::proofs::Entries::of_low_eight))]
 pub fn byte_of(v: i32) -> u8
     ensures { result ≡ low_eight v }
 {
@@ -31,15 +33,12 @@ pub fn entry_of(b: u8) -> i32
 }
 
 // The bytes of the entries into `out` from `at` on, as far as there is room: nothing is asked between one and the next.
+#[tactic(auto, using(crate::proofs::Entries::entering))]
 pub fn copy(list: &[i32], out: &mut [u8], at: usize)
     ensures { out.new ≡ sets out.old at (low_bytes list.now) }
 {
     let count = wire::in_room(list.len(), out.len(), at);
-    let mut i = 0;
-    while i < count {
-        let v = list[i];
-        let to = at + i;
-        out[to] = byte_of(v);
-        i = i + 1;
+    for i in 0..count {
+        out[at + i] = byte_of(list[i]);
     }
 }

@@ -3,4 +3,3 @@ pub mod Ahead
 pub mod Spelling
 pub mod RoundTrip
 pub mod Shortest
-pub mod Coinciding

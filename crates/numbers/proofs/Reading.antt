@@ -11,31 +11,27 @@ use mir.Syntax.{w32}
 use mir.Val.{SFits, to_z, of_z}
 use mir.Facts.{to_z-of_z}
 use Rattle.memory.specs.declared.Remembered.{Remembered}
-use Rattle.refusals.specs.declared.Refusal.{Refusal}
+use Rattle.std.specs.Prelude.{Result, Ok, Err}
+use Rattle.refusals.specs.declared.RefusedAt.{RefusedAt}
 use Rattle.refusals.specs.declared.Refusal.TheVariants.{IntegerOutside, CountOutside}
 use Rattle.refusals.specs.declared.Taken.{Taken}
-use Rattle.refusals.specs.Answers.{Answer, done, refused}
-use Rattle.wire.specs.declared.ByteRead.{ByteRead}
-use Rattle.wire.specs.declared.TakenByte.{TakenByte}
-use Rattle.wire.specs.Taking.{byte_at, byte_of}
+use Rattle.refusals.specs.Answers.{Answer, done, refused, answer_at}
+use Rattle.wire.specs.Taking.{byte_at}
 use Rattle.wire.proofs.Feeds.{byte_given, none_given}
-use Rattle.numbers.specs.declared.IntegerRead.{IntegerRead}
-use Rattle.numbers.specs.declared.TakenInteger.{TakenInteger}
-use Rattle.numbers.specs.declared.CountRead.TheVariants as CountRead
 use Rattle.signs.specs.Signs.{signed_of, is_negative, most_magnitude}
-use Rattle.numbers.specs.Integers.{integer_of, integer_from, integer_at, low_byte}
-use Rattle.numbers.specs.Counts.{count_in, count_at, count_of}
+use Rattle.numbers.specs.Integers.{integer_from, integer_at, low_byte}
+use Rattle.numbers.specs.Counts.{count_in, count_at}
 
 -- ---- the low byte
 
 module _ (h b p n : ℕ) {l : ℕ} (el : l ≡ most_magnitude (ltb b 48)) where
-  pub low_in : {x : ℤ} → h * 16 + b % 16 ≤ l → x ≡ signed_of (h * 16 + b % 16) (ltb b 48) → integer_of (IntegerRead.Integer (record { value = x; place = p; next = n })) ≡ low_byte h b p n
-  unfolding integer_of
+  pub low_in : {x : ℤ} → h * 16 + b % 16 ≤ l → x ≡ signed_of (h * 16 + b % 16) (ltb b 48) → answer_at (Ok (record { value = x; place = p; next = n })) ≡ low_byte h b p n
+  unfolding answer_at
   low_in r e = rw (e, ← el, le-leb (h * 16 + b % 16) l r)
 
-  pub low_out : l < h * 16 + b % 16 → integer_of (IntegerRead.Refused IntegerOutside p) ≡ low_byte h b p n
-  unfolding integer_of
-  low_out r = rw (← el, lt-leb (h * 16 + b % 16) l r)
+  pub low_out : {x : RefusedAt} → l < h * 16 + b % 16 → x ≡ record { refusal = IntegerOutside; place = p } → answer_at {A = Taken ℤ} (Err x) ≡ low_byte h b p n
+  unfolding answer_at
+  low_out r e = rw (e, ← el, lt-leb (h * 16 + b % 16) l r)
 
 -- ---- one byte of an integer
 
@@ -59,52 +55,54 @@ no_byte kept s at zero h e = rw e
 no_byte kept s at (suc k) h e = rw e
 
 -- the same, as the code has it: what `take` gave, and what stands for the rest
-module _ (kept : Remembered) (s : List ℕ) (at : ℕ) {r : ByteRead} (e : byte_of r ≡ byte_at kept s at) where
-  pub low_step : (k h : ℕ) {b : TakenByte} {q : Answer (Taken ℤ)} → r ≡ ByteRead.Byte b → b.value < 64 → q ≡ low_byte h b.value b.place b.next → q ≡ integer_from kept k h s at
+module _ (kept : Remembered) (s : List ℕ) (at : ℕ) {r : Result (Taken ℕ) RefusedAt} (e : answer_at r ≡ byte_at kept s at) where
+  pub low_step : (k h : ℕ) {b : Taken ℕ} {q : Answer (Taken ℤ)} → r ≡ Ok b → b.value < 64 → q ≡ low_byte h b.value b.place b.next → q ≡ integer_from kept k h s at
   low_step k h g l j = j ∙ sym (low-byte kept s at (byte_given kept s at e g) k h l)
 
   -- at the numerals that the contracts name
-  pub second-step : (h : ℕ) {b : TakenByte} {q : Answer (Taken ℤ)} → r ≡ ByteRead.Byte b → 64 ≤ b.value → q ≡ integer_from kept 0 (h * 64 + b.value % 64) s b.next → q ≡ integer_from kept 1 h s at
-  second-step h g l j = j ∙ sym (high_byte kept s at (byte_given kept s at e g) 0 h l)
+  pub second_step : (h : ℕ) {b : Taken ℕ} {q : Answer (Taken ℤ)} → r ≡ Ok b → 64 ≤ b.value → q ≡ integer_from kept 0 (h * 64 + b.value % 64) s b.next → q ≡ integer_from kept 1 h s at
+  second_step h g l j = j ∙ sym (high_byte kept s at (byte_given kept s at e g) 0 h l)
 
-  pub first_step : {b : TakenByte} {q : Answer (Taken ℤ)} → r ≡ ByteRead.Byte b → 64 ≤ b.value → q ≡ integer_from kept 1 (b.value % 64) s b.next → q ≡ integer_from kept 2 0 s at
+  pub first_step : {b : Taken ℕ} {q : Answer (Taken ℤ)} → r ≡ Ok b → 64 ≤ b.value → q ≡ integer_from kept 1 (b.value % 64) s b.next → q ≡ integer_from kept 2 0 s at
   first_step {b = b} g l j =
       j ∙ ap (λ (h : ℕ). integer_from kept 1 h s b.next) (omega arith) ∙ sym (high_byte kept s at (byte_given kept s at e g) 1 0 l)
 
-  pub third_step : (h : ℕ) {b : TakenByte} → r ≡ ByteRead.Byte b → 64 ≤ b.value → integer_of (IntegerRead.Refused IntegerOutside b.place) ≡ integer_from kept 0 h s at
-  unfolding integer_of
+  pub third_step : (h : ℕ) {b : Taken ℕ} → r ≡ Ok b → 64 ≤ b.value → answer_at {A = Taken ℤ} (Err (record { refusal = IntegerOutside; place = b.place })) ≡ integer_from kept 0 h s at
+  unfolding answer_at
   third_step h g l = sym (third_high kept s at (byte_given kept s at e g) h l)
 
-  pub no_step : (k h : ℕ) {x : Refusal} {p : ℕ} → r ≡ ByteRead.Refused x p → integer_of (IntegerRead.Refused x p) ≡ integer_from kept k h s at
-  unfolding integer_of
+  pub no_step : (k h : ℕ) {x : RefusedAt} → r ≡ Err x → answer_at {A = Taken ℤ} (Err x) ≡ integer_from kept k h s at
+  unfolding answer_at
   no_step k h g = sym (no_byte kept s at k h (none_given kept s at e g))
 
 -- ---- a count
 
-module _ (most : ℕ) {r : IntegerRead} where
-  pub count_no : {x : Refusal} {p : ℕ} → r ≡ IntegerRead.Refused x p → count_of (CountRead.Refused x p) ≡ count_in most (integer_of r)
-  unfolding count_in count_of integer_of
+module _ (most : ℕ) {r : Result (Taken ℤ) RefusedAt} where
+  pub count_no : {x : RefusedAt} → r ≡ Err x → answer_at {A = Taken ℕ} (Err x) ≡ count_in most (answer_at r)
+  unfolding count_in answer_at
   count_no g = rw g
 
-  module _ {i : TakenInteger} {b : Bool} (g : r ≡ IntegerRead.Integer i) (f : SFits w32 i.value) (eb : b ≡ is_negative (to_z w32 (of_z w32 i.value))) where
+  module _ {i : Taken ℤ} {b : Bool} (g : r ≡ Ok i) (f : SFits w32 i.value) (eb : b ≡ is_negative (to_z w32 (of_z w32 i.value))) where
     sign : {t : Bool} → b ≡ t → is_negative i.value ≡ t
     sign q = sym (rw (to_z-of_z f) at eb) ∙ q
 
-    pub count-minus : b ≡ true → count_of (CountRead.Refused CountOutside i.place) ≡ count_in most (integer_of r)
-    unfolding count_in count_of integer_of
-    count-minus t = rw (g, sign t)
+    pub count_minus : b ≡ true → answer_at {A = Taken ℕ} (Err (record { refusal = CountOutside; place = i.place })) ≡ count_in most (answer_at r)
+    unfolding count_in answer_at
+    count_minus t = rw (g, sign t)
 
     module _ {m : ℕ} (t : b ≡ false) (em : m ≡ nat_abs (to_z w32 (of_z w32 i.value))) where
       size : m ≡ nat_abs i.value
       size = rw (to_z-of_z f) at em
 
-      pub count-is : m ≤ most → count_of (CountRead.Count (record { value = m; place = i.place; next = i.next })) ≡ count_in most (integer_of r)
-      unfolding count_in count_of integer_of
-      count-is h = rw (g, sign t, ← size, le-leb m most h)
+      pub count_is : m ≤ most → answer_at (Ok (record { value = m; place = i.place; next = i.next })) ≡ count_in most (answer_at r)
+      unfolding count_in answer_at
+      count_is h = rw (g, sign t, ← size, le-leb m most h)
 
-      pub count-over : most < m → count_of (CountRead.Refused CountOutside i.place) ≡ count_in most (integer_of r)
-      unfolding count_in count_of integer_of
-      count-over h = rw (g, sign t, ← size, lt-leb m most h)
+      pub count_over : most < m → answer_at {A = Taken ℕ} (Err (record { refusal = CountOutside; place = i.place })) ≡ count_in most (answer_at r)
+      unfolding count_in answer_at
+      count_over h = rw (g, sign t, ← size, lt-leb m most h)
 
 pub counted : (kept : Remembered) (s : List ℕ) (at : ℕ) {i : Answer (Taken ℤ)} {q : Answer (Taken ℕ)} → i ≡ integer_at kept s at → q ≡ count_in 256 i → q ≡ count_at kept s at
 counted kept s at e j = rw (← e) j
+
+pub ruleset counts = (count_no, count_minus, count_is, count_over)

@@ -1,20 +1,12 @@
 -- "A count is an integer 0..256."
 use Rattle.std.specs.Prelude.{ℕ, List, leb, ℤ, pos, nat_abs}
 use Rattle.memory.specs.declared.Remembered.{Remembered}
-use Rattle.refusals.specs.Refusals.{number_of}
 use Rattle.refusals.specs.declared.Taken.{Taken}
 use Rattle.refusals.specs.Answers.{Answer, done, refused, then, pick}
 use Rattle.signs.specs.Signs.{is_negative}
 use Rattle.ranges.specs.Ranges.{most_entries}
 use Rattle.wire.specs.Sending.{sent, write_if}
 use Rattle.numbers.specs.Integers.{integer_at, spell}
-use Rattle.numbers.specs.declared.CountRead.{CountRead}
-use Rattle.numbers.specs.declared.CountRead.TheVariants.{Count, Refused}
-
--- what the answer says
-unfoldable pub count_of : CountRead → Answer (Taken ℕ)
-count_of (Count c) = done (record { value = c.value; place = c.place; next = c.next })
-count_of (Refused e p) = refused (number_of e) p
 
 -- an integer that was read, as a count of at most most: "count negative or above 256 (place: its low byte)"
 abbrev pub as_count : ℕ → Taken ℤ → Answer (Taken ℕ)

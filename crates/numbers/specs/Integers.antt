@@ -2,19 +2,11 @@
 -- number is not negative. Range -32768..32767. Minus nought reads as 0. Leading high bytes of value 0 are accepted and never written."
 use Rattle.std.specs.Prelude.{ℕ, suc, zero, ◌+◌, ◌*◌, ◌/◌, ◌%◌, List, [], ◌∷◌, ◌++◌, Bool, true, false, ltb, leb, eqb, ℤ, nat_abs}
 use Rattle.memory.specs.declared.Remembered.{Remembered}
-use Rattle.refusals.specs.Refusals.{number_of}
 use Rattle.refusals.specs.declared.Taken.{Taken}
 use Rattle.refusals.specs.Answers.{Answer, done, refused, then, pick}
 use Rattle.signs.specs.Signs.{signed_of, is_negative, most_magnitude, is_integer}
 use Rattle.wire.specs.Taking.{byte_at}
 use Rattle.wire.specs.Sending.{sent, write_if}
-use Rattle.numbers.specs.declared.IntegerRead.{IntegerRead}
-use Rattle.numbers.specs.declared.IntegerRead.TheVariants.{Integer, Refused}
-
--- what the answer says
-unfoldable pub integer_of : IntegerRead → Answer (Taken ℤ)
-integer_of (Integer i) = done (record { value = i.value; place = i.place; next = i.next })
-integer_of (Refused e p) = refused (number_of e) p
 
 -- ---- reading
 

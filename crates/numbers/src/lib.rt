@@ -2,114 +2,76 @@
 #![tactic(auto)]
 
 ghost use Rattle.std.specs.Prelude.{◌≡◌, true, ◌<◌, ◌≤◌, ◌*◌};
-ghost use Rattle.numbers.specs.Integers.{low_byte, integer_from, integer_at, integer_of};
+ghost use Rattle.refusals.specs.Answers.{answer_at};
+ghost use Rattle.numbers.specs.Integers.{low_byte, integer_from, integer_at};
 ghost use Rattle.numbers.specs.Three.{highs_before, high_value, ends_ahead};
-ghost use Rattle.numbers.specs.Counts.{count_in, count_at, count_of};
+ghost use Rattle.numbers.specs.Counts.{count_in, count_at};
 
 use memory::Remembered;
 use ranges::MOST_ENTRIES;
-use refusals::Refusal;
-use wire::ByteRead;
-
-// An integer that was read, the place of its low byte, and where reading goes on.
-#[derive(Clone, Copy)]
-pub struct TakenInteger {
-    pub value: i32,
-    pub place: usize,
-    pub next: usize,
-}
-
-#[derive(Clone, Copy)]
-pub enum IntegerRead {
-    Integer(TakenInteger),
-    // the refusal and its place
-    Refused(Refusal, usize),
-}
-
-// The same for a count.
-#[derive(Clone, Copy)]
-pub struct TakenCount {
-    pub value: usize,
-    pub place: usize,
-    pub next: usize,
-}
-
-#[derive(Clone, Copy)]
-pub enum CountRead {
-    Count(TakenCount),
-    // the refusal and its place
-    Refused(Refusal, usize),
-}
+use refusals::{Refusal, RefusedAt, Taken};
 
 // The low byte `low` after high bytes of value `high`.
-fn low_byte(high: u16, low: u8, place: usize, next: usize) -> IntegerRead
+#[tactic(auto, using(crate::proofs::Reading::low_in))]
+fn low_byte(high: u16, low: u8, place: usize, next: usize) -> Result<Taken<i32>, RefusedAt>
     requires { high < 4096 }
-    ensures { integer_of result ≡ low_byte high low place next }
+    ensures { answer_at result ≡ low_byte high low place next }
 {
     let mag = high * 16 + (low % 16) as u16;
     let negative = low < 48;
     if mag as u32 > signs::most_magnitude(negative) {
-        return IntegerRead::Refused(Refusal::IntegerOutside, place);
+        return Err(Refusal::IntegerOutside.at(place));
     }
-    let integer = TakenInteger {
+    Ok(Taken {
         value: signs::signed(mag, negative),
         place: place,
         next: next,
-    };
-    IntegerRead::Integer(integer)
+    })
 }
 
 // The low byte, where two high bytes of value `high` stand before it.
-fn after_two(kept: Remembered, s: &[u8], at: usize, high: u16) -> IntegerRead
+#[tactic(auto, using(crate::proofs::Reading::low_step, crate::proofs::Reading::third_step, crate::proofs::Reading::no_step))]
+fn after_two(kept: Remembered, s: &[u8], at: usize, high: u16) -> Result<Taken<i32>, RefusedAt>
     requires { high < 4096 }
-    ensures { integer_of result ≡ integer_from kept 0 high s.now at }
+    ensures { answer_at result ≡ integer_from kept 0 high s.now at }
 {
-    match wire::take(kept, s, at) {
-        ByteRead::Byte(byte) => {
-            if byte.value < 64 {
-                return low_byte(high, byte.value, byte.place, byte.next);
-            }
-            IntegerRead::Refused(Refusal::IntegerOutside, byte.place)
-        }
-        ByteRead::Refused(e, p) => IntegerRead::Refused(e, p),
+    let byte = wire::take(kept, s, at)?;
+    if byte.value < 64 {
+        return low_byte(high, byte.value, byte.place, byte.next);
     }
+    Err(Refusal::IntegerOutside.at(byte.place))
 }
 
 // The rest of an integer, where one high byte of value `high` stands before it.
-fn after_one(kept: Remembered, s: &[u8], at: usize, high: u16) -> IntegerRead
+#[tactic(auto, using(crate::proofs::Reading::low_step, crate::proofs::Reading::second_step, crate::proofs::Reading::no_step))]
+fn after_one(kept: Remembered, s: &[u8], at: usize, high: u16) -> Result<Taken<i32>, RefusedAt>
     requires { high < 64 }
-    ensures { integer_of result ≡ integer_from kept 1 high s.now at }
+    ensures { answer_at result ≡ integer_from kept 1 high s.now at }
 {
-    match wire::take(kept, s, at) {
-        ByteRead::Byte(byte) => {
-            if byte.value < 64 {
-                return low_byte(high, byte.value, byte.place, byte.next);
-            }
-            let higher = high * 64 + (byte.value % 64) as u16;
-            after_two(kept, s, byte.next, higher)
-        }
-        ByteRead::Refused(e, p) => IntegerRead::Refused(e, p),
+    let byte = wire::take(kept, s, at)?;
+    if byte.value < 64 {
+        return low_byte(high, byte.value, byte.place, byte.next);
     }
+    let higher = high * 64 + (byte.value % 64) as u16;
+    after_two(kept, s, byte.next, higher)
 }
 
 // An integer byte by byte.
-fn by_bytes(kept: Remembered, s: &[u8], at: usize) -> IntegerRead
-    ensures { integer_of result ≡ integer_at kept s.now at }
+#[tactic(auto, using(crate::proofs::Reading::low_step, crate::proofs::Reading::first_step, crate::proofs::Reading::no_step))]
+fn by_bytes(kept: Remembered, s: &[u8], at: usize) -> Result<Taken<i32>, RefusedAt>
+    ensures { answer_at result ≡ integer_at kept s.now at }
 {
-    match wire::take(kept, s, at) {
-        ByteRead::Byte(byte) => {
-            if byte.value < 64 {
-                return low_byte(0, byte.value, byte.place, byte.next);
-            }
-            let high = (byte.value % 64) as u16;
-            after_one(kept, s, byte.next, high)
-        }
-        ByteRead::Refused(e, p) => IntegerRead::Refused(e, p),
+    let byte = wire::take(kept, s, at)?;
+    if byte.value < 64 {
+        return low_byte(0, byte.value, byte.place, byte.next);
     }
+    let high = (byte.value % 64) as u16;
+    after_one(kept, s, byte.next, high)
 }
 
 // How many high bytes stand before the low byte, by the two bytes that come first. It is a sum: which number it will be is not to be
 // foreseen, and a processor that guesses wrong loses more time than all the rest takes.
+#[tactic(auto, using(crate::proofs::Ahead::highs_sum))]
 fn highs_before(a: u8, b: u8) -> usize
     requires { (a < 128) × (b < 128) }
     ensures { result ≡ highs_before a b }
@@ -167,9 +129,9 @@ fn ends_ahead(s: &[u8], at: usize) -> bool
 }
 
 // Such an integer.
-fn among_three(kept: Remembered, s: &[u8], at: usize) -> IntegerRead
+fn among_three(kept: Remembered, s: &[u8], at: usize) -> Result<Taken<i32>, RefusedAt>
     requires { ends_ahead s.now at ≡ true }
-    ensures { integer_of result ≡ integer_at kept s.now at }
+    ensures { answer_at result ≡ integer_at kept s.now at }
 {
     let a = s[at];
     let b = s[at + 1];
@@ -179,8 +141,9 @@ fn among_three(kept: Remembered, s: &[u8], at: usize) -> IntegerRead
     low_byte(high_value(a, b), low, place, next)
 }
 
-pub fn read_integer(kept: Remembered, s: &[u8], at: usize) -> IntegerRead
-    ensures { integer_of result ≡ integer_at kept s.now at }
+#[tactic(auto, using(crate::proofs::Ahead::ahead_told))]
+pub fn read_integer(kept: Remembered, s: &[u8], at: usize) -> Result<Taken<i32>, RefusedAt>
+    ensures { answer_at result ≡ integer_at kept s.now at }
 {
     if ends_ahead(s, at) {
         return among_three(kept, s, at);
@@ -189,32 +152,29 @@ pub fn read_integer(kept: Remembered, s: &[u8], at: usize) -> IntegerRead
 }
 
 // An integer that was read, as a count of at most `most`.
-pub fn as_count(read: IntegerRead, most: usize) -> CountRead
-    ensures { count_of result ≡ count_in most (integer_of read) }
+#[tactic(auto, using(crate::proofs::Reading::counts))]
+pub fn as_count(read: Result<Taken<i32>, RefusedAt>, most: usize) -> Result<Taken<usize>, RefusedAt>
+    ensures { answer_at result ≡ count_in most (answer_at read) }
 {
-    match read {
-        IntegerRead::Integer(integer) => {
-            let v = integer.value;
-            if signs::is_negative(v) {
-                return CountRead::Refused(Refusal::CountOutside, integer.place);
-            }
-            let m = signs::magnitude(v) as usize;
-            if m <= most {
-                let count = TakenCount {
-                    value: m,
-                    place: integer.place,
-                    next: integer.next,
-                };
-                return CountRead::Count(count);
-            }
-            CountRead::Refused(Refusal::CountOutside, integer.place)
-        }
-        IntegerRead::Refused(e, p) => CountRead::Refused(e, p),
+    let integer = read?;
+    let v = integer.value;
+    if signs::is_negative(v) {
+        return Err(Refusal::CountOutside.at(integer.place));
     }
+    let count = signs::magnitude(v) as usize;
+    if count > most {
+        return Err(Refusal::CountOutside.at(integer.place));
+    }
+    Ok(Taken {
+        value: count,
+        place: integer.place,
+        next: integer.next,
+    })
 }
 
-pub fn read_count(kept: Remembered, s: &[u8], at: usize) -> CountRead
-    ensures { count_of result ≡ count_at kept s.now at }
+#[tactic(auto, using(crate::proofs::Reading::counted))]
+pub fn read_count(kept: Remembered, s: &[u8], at: usize) -> Result<Taken<usize>, RefusedAt>
+    ensures { answer_at result ≡ count_at kept s.now at }
 {
     as_count(read_integer(kept, s, at), MOST_ENTRIES)
 }

@@ -51,10 +51,10 @@ module _ (least most : ℕ) where
 pub ruleset ranges = (minus, too_low, not_low)
 
 -- a signed argument, handed on to a test of one
-pub handed-on : (least most : ℕ) (v : ℤ) {b : Bool} → SFits w32 v → b ≡ within least most (to_z w32 (of_z w32 v)) → b ≡ within least most v
-handed-on least most v f e = rw (to_z-of_z f) at e
+pub handed_on : (least most : ℕ) (v : ℤ) {b : Bool} → SFits w32 v → b ≡ within least most (to_z w32 (of_z w32 v)) → b ≡ within least most v
+handed_on least most v f e = rw (to_z-of_z f) at e
 
 -- the same for an entry of a list
 module _ (least most : ℕ) (list : List ℤ) (i : ℕ) where
   pub entry_next : {good b : Bool} → Checking (within least most) list i good → i < length list → SFits w32 (get_or list i (pos 0)) → b ≡ within least most (to_z w32 (of_z w32 (get_or list i (pos 0)))) → Checking (within least most) list (i + 1) (good && b)
-  entry_next f h fits e = checking_next (within least most) list (pos 0) i f h (handed-on least most (get_or list i (pos 0)) fits e)
+  entry_next f h fits e = checking_next (within least most) list (pos 0) i f h (handed_on least most (get_or list i (pos 0)) fits e)

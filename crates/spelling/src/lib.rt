@@ -3,16 +3,16 @@
 
 ghost use Rattle.std.specs.Prelude.{◌≡◌, ◌≤◌, length, leb, pos};
 ghost use Rattle.std.proofs.lemmas.List.Edits.{sets};
+ghost use Rattle.refusals.specs.Answers.{answer_of};
 ghost use Rattle.signs.specs.Signs.{is_integer};
 ghost use Rattle.ranges.specs.Ranges.{most_entries};
-ghost use Rattle.wire.specs.Sending.{sent, after_write, written_of, poured};
+ghost use Rattle.wire.specs.Sending.{sent, after_write, poured};
 ghost use Rattle.numbers.specs.Integers.{low_of, spell_of, spell, write_integer};
 ghost use Rattle.numbers.specs.Counts.{write_count};
 
 use memory::Remembered;
 use ranges::MOST_ENTRIES;
 use refusals::Refusal;
-use wire::Written;
 
 // The low byte of a magnitude and a sign.
 pub fn low_of(mag: u32, negative: bool) -> u8
@@ -43,6 +43,7 @@ fn pour_magnitude(kept: Remembered, mag: u32, negative: bool, out: &mut [u8], at
 }
 
 // The same where each byte is sent as itself: no byte is asked whether it is a 127.
+#[tactic(auto, using(crate::proofs::Pouring::layings))]
 fn lay_magnitude(mag: u32, negative: bool, out: &mut [u8], at: usize) -> usize
     requires { mag ≤ 32768 }
     ensures { (result ≡ length (spell_of mag negative)) × (out.new ≡ sets out.old at (spell_of mag negative)) }
@@ -67,6 +68,7 @@ fn lay_magnitude(mag: u32, negative: bool, out: &mut [u8], at: usize) -> usize
 }
 
 // The bytes of an integer as far as there is room, and how many they are; of a value outside its range none.
+#[tactic(auto, using(crate::proofs::Writing::poured_integers))]
 pub fn pour_integer(kept: Remembered, v: i32, out: &mut [u8], at: usize) -> usize
     ensures { (result ≡ length (poured (is_integer v) (sent kept (spell v)))) × (out.new ≡ sets out.old at (poured (is_integer v) (sent kept (spell v)))) }
 {
@@ -82,6 +84,7 @@ pub fn pour_integer(kept: Remembered, v: i32, out: &mut [u8], at: usize) -> usiz
 }
 
 // The same for a count.
+#[tactic(auto, using(refusals::proofs::Rules::tests, crate::proofs::Writing::poured_numbers))]
 pub fn pour_count(kept: Remembered, n: usize, out: &mut [u8], at: usize) -> usize
     ensures { (result ≡ length (poured (leb n most_entries) (sent kept (spell (pos n))))) × (out.new ≡ sets out.old at (poured (leb n most_entries) (sent kept (spell (pos n))))) }
 {
@@ -96,31 +99,28 @@ pub fn pour_count(kept: Remembered, n: usize, out: &mut [u8], at: usize) -> usiz
 }
 
 // 8 for a value outside -32768..32767, then 7.
-pub fn write_integer(kept: Remembered, v: i32, out: &mut [u8], at: usize) -> Written
-    ensures { (written_of result ≡ write_integer kept v (length out.old) at) × (out.new ≡ after_write (written_of result) (sent kept (spell v)) out.old at) }
+#[tactic(auto, using(crate::proofs::Writing::written_integers))]
+pub fn write_integer(kept: Remembered, v: i32, out: &mut [u8], at: usize) -> Result<usize, Refusal>
+    ensures { (answer_of result ≡ write_integer kept v (length out.old) at) × (out.new ≡ after_write (answer_of result) (sent kept (spell v)) out.old at) }
 {
     if !signs::is_integer(v) {
-        return Written::Refused(Refusal::NotValid);
+        return Err(Refusal::NotValid);
     }
     // poured into no room, which finds the length: nothing lent is touched before it is known to fit
     let mut none = [0u8; 0];
     let size = pour_integer(kept, v, &mut none, 0);
-    match wire::room_for(size, out.len(), at) {
-        Written::Next(next) => {
-            pour_integer(kept, v, out, at);
-            Written::Next(next)
-        }
-        Written::Refused(e) => Written::Refused(e),
-    }
+    let next = wire::room_for(size, out.len(), at)?;
+    pour_integer(kept, v, out, at);
+    Ok(next)
 }
 
 // 8 for a count above 256, then 7.
-pub fn write_count(kept: Remembered, n: usize, out: &mut [u8], at: usize) -> Written
-    ensures { (written_of result ≡ write_count kept n (length out.old) at) × (out.new ≡ after_write (written_of result) (sent kept (spell (pos n))) out.old at) }
+#[tactic(auto, using(crate::proofs::Writing::written_counts))]
+pub fn write_count(kept: Remembered, n: usize, out: &mut [u8], at: usize) -> Result<usize, Refusal>
+    ensures { (answer_of result ≡ write_count kept n (length out.old) at) × (out.new ≡ after_write (answer_of result) (sent kept (spell (pos n))) out.old at) }
 {
     if MOST_ENTRIES < n {
-        return Written::Refused(Refusal::NotValid);
+        return Err(Refusal::NotValid);
     }
-    let v = n as i32;
-    write_integer(kept, v, out, at)
+    write_integer(kept, n as i32, out, at)
 }

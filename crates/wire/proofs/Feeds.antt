@@ -11,17 +11,15 @@ use lib.Seq.{get_or-append-add}
 use Rattle.memory.specs.declared.DelMode.{DelMode}
 use Rattle.memory.specs.declared.DelMode.TheVariants.{Data, Filler}
 use Rattle.memory.specs.declared.Remembered.{Remembered}
-use Rattle.refusals.specs.declared.Refusal.{Refusal}
+use Rattle.refusals.specs.declared.RefusedAt.{RefusedAt}
 use Rattle.refusals.specs.Refusals.{number_of}
 use Rattle.refusals.specs.declared.Taken.{Taken}
-use Rattle.refusals.specs.Answers.{done, refused, pick, past_front}
+use Rattle.refusals.specs.Answers.{done, refused, answer_at, pick, past_front}
 use Rattle.refusals.proofs.Cases.{by_pick, and_left, and_right, Done, done-of, done-map, is-done, not_done}
 use Rattle.refusals.proofs.Many.{Checking, checking_none, checking_more, checking_end}
 use Rattle.refusals.proofs.Passing.{past_here, past_on, past_within, past_stops}
-use Rattle.wire.specs.declared.ByteRead.{ByteRead}
-use Rattle.wire.specs.declared.TakenByte.{TakenByte}
-use Rattle.wire.specs.declared.ByteRead.TheVariants.{Byte, Refused}
-use Rattle.wire.specs.Taking.{is_del, past_dels, pair_at, found_at, byte_at, byte_of, most_itself, is_itself}
+use Rattle.std.specs.Prelude.{Result, Ok, Err}
+use Rattle.wire.specs.Taking.{is_del, past_dels, pair_at, found_at, byte_at, most_itself, is_itself}
 use Rattle.wire.specs.Sending.{sent_in, sent}
 use Rattle.wire.proofs.Sendings.{sent-append, sent-none, sent-long, sent-long_in, one_size}
 
@@ -51,13 +49,13 @@ stands-right s at a w st = record {
 }
 
 -- what a caller of `take` has in hand
-pub byte_given : (kept : Remembered) (s : List ℕ) (at : ℕ) {r : ByteRead} {b : TakenByte} → byte_of r ≡ byte_at kept s at → r ≡ Byte b → byte_at kept s at ≡ done (record { value = b.value; place = b.place; next = b.next })
-unfolding byte_of
+pub byte_given : (kept : Remembered) (s : List ℕ) (at : ℕ) {r : Result (Taken ℕ) RefusedAt} {b : Taken ℕ} → answer_at r ≡ byte_at kept s at → r ≡ Ok b → byte_at kept s at ≡ done b
+unfolding answer_at
 byte_given kept s at e g = sym e ∙ rw g
 
-pub none_given : (kept : Remembered) (s : List ℕ) (at : ℕ) {r : ByteRead} {x : Refusal} {p : ℕ} → byte_of r ≡ byte_at kept s at → r ≡ Refused x p → byte_at kept s at ≡ refused (number_of x) p
-unfolding byte_of
-none_given kept s at e g = sym e ∙ rw g
+pub none_given : (kept : Remembered) (s : List ℕ) (at : ℕ) {r : Result (Taken ℕ) RefusedAt} {e : RefusedAt} → answer_at r ≡ byte_at kept s at → r ≡ Err e → byte_at kept s at ≡ refused (number_of e.refusal) e.place
+unfolding answer_at
+none_given kept s at j g = sym j ∙ rw g
 
 -- from at on the bytes w are taken, up to n
 abbrev pub Feeds : Remembered → List ℕ → ℕ → List ℕ → ℕ → Type 0

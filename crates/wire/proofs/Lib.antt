@@ -2,5 +2,4 @@ pub mod Sendings
 pub mod Writings
 pub mod Dels
 pub mod Feeds
-pub mod Coinciding
 pub mod Handing

@@ -60,8 +60,8 @@ pub sent-long : (kept : Remembered) (w : List ℕ) → length (sent kept w) ≤ 
 unfolding sent
 sent-long kept w = sent-long_in kept.mode w
 
-pub sent-same : (kept : Remembered) (w : List ℕ) {v : List ℕ} → v ≡ w → sent kept v ≡ sent kept w
-sent-same kept w e = ap (sent kept) e
+pub sent_same : (kept : Remembered) (w : List ℕ) {v : List ℕ} → v ≡ w → sent kept v ≡ sent kept w
+sent_same kept w e = ap (sent kept) e
 
 -- ---- one byte
 
@@ -133,16 +133,18 @@ pub one-stored : (l : List ℕ) (at n b : ℕ) → set l (at + n) b ≡ sets l (
 one-stored l at n b = refl
 
 -- two bytes, one behind the other
-pub two-stored : (l : List ℕ) (at n a b : ℕ) {m o : List ℕ} → m ≡ sets l (at + n) (a ∷ []) → o ≡ sets m (at + (n + 1)) (b ∷ []) → o ≡ sets l (at + n) (a ∷ b ∷ [])
-two-stored l at n a b e j =
+pub two_stored : (l : List ℕ) (at n a b : ℕ) {m o : List ℕ} → m ≡ sets l (at + n) (a ∷ []) → o ≡ sets m (at + (n + 1)) (b ∷ []) → o ≡ sets l (at + n) (a ∷ b ∷ [])
+two_stored l at n a b e j =
     let z : at + (n + 1) ≡ at + n + 1 = omega arith in
     j ∙ rw (e, z) (sets_append (a ∷ []) (b ∷ []) l (at + n))
 
-pub one-first : (kept : Remembered) (b : ℕ) (l : List ℕ) (at : ℕ) {o : List ℕ} → o ≡ sets l (at + 0) (sent kept (b ∷ [])) → o ≡ sets l at (sent kept (b ∷ []))
-one-first kept b l at j = let z : at + 0 ≡ at = omega arith in rw z at j
+pub one_first : (kept : Remembered) (b : ℕ) (l : List ℕ) (at : ℕ) {o : List ℕ} → o ≡ sets l (at + 0) (sent kept (b ∷ [])) → o ≡ sets l at (sent kept (b ∷ []))
+one_first kept b l at j = let z : at + 0 ≡ at = omega arith in rw z at j
 
 pub ruleset storings = (none_past, none_full, one-stored)
 
 pub ruleset dels = (data_size, data_stands, pair_size, pair-stands)
 
 pub ruleset ones = (del-size, del-stands, one_size, one-stands)
+
+pub ruleset pairs = (none_behind, two_stored)

@@ -13,13 +13,12 @@ use borrow.Author.Rules.{Fits-under}
 use mir.Syntax.{w64}
 use mir.Val.{Fits}
 use Rattle.memory.specs.declared.Remembered.{Remembered}
-use Rattle.refusals.specs.Answers.{Answer, number}
+use Rattle.refusals.specs.Answers.{Answer, answer_of, number}
 use Rattle.refusals.proofs.Many.{past_end, sets_append}
 use Rattle.refusals.specs.declared.Refusal.{Refusal}
 use Rattle.refusals.specs.declared.Refusal.TheVariants.{TooShort, NotValid}
-use Rattle.wire.specs.declared.Written.{Written}
-use Rattle.wire.specs.declared.Written.TheVariants.{Next, Refused}
-use Rattle.wire.specs.Sending.{sent, written_of, room_for, in_room, write_at, write_if, after_write, poured}
+use Rattle.std.specs.Prelude.{Result, Ok, Err}
+use Rattle.wire.specs.Sending.{sent, room_for, in_room, write_at, write_if, after_write, poured}
 use Rattle.wire.proofs.Sendings.{sent-append, sent-long}
 
 -- what is left, laid from here, ends where the whole ends
@@ -47,48 +46,48 @@ copying_more w out₀ out at i f e k =
 
 -- whether there is room, with the tests as the code leaves them
 module _ (size room at : ℕ) where
-  pub at-past : room < at → written_of (Refused TooShort) ≡ room_for size room at
-  unfolding written_of room_for
+  pub at-past : room < at → answer_of (Err TooShort) ≡ room_for size room at
+  unfolding answer_of room_for
   at-past h = rw (lt-leb (at + size) room (omega arith))
 
-  pub no_room : at ≤ room → room - at < size → written_of (Refused TooShort) ≡ room_for size room at
-  unfolding written_of room_for
+  pub no_room : at ≤ room → room - at < size → answer_of (Err TooShort) ≡ room_for size room at
+  unfolding answer_of room_for
   no_room p h = rw (lt-leb (at + size) room (omega arith))
 
-  pub has_room : at ≤ room → size ≤ room - at → written_of (Next (at + size)) ≡ room_for size room at
-  unfolding written_of room_for
+  pub has_room : at ≤ room → size ≤ room - at → answer_of (Ok (at + size)) ≡ room_for size room at
+  unfolding answer_of room_for
   has_room p h = rw (le-leb (at + size) room (omega arith))
 
 -- where there is an end there is room, and a place before it fits a machine word
-found_room : (size room at : ℕ) {r : Written} {n : ℕ} → written_of r ≡ room_for size room at → r ≡ Next n → at + size ≤ room
-unfolding written_of room_for number
+found_room : (size room at : ℕ) {r : Result ℕ Refusal} {n : ℕ} → answer_of r ≡ room_for size room at → r ≡ Ok n → at + size ≤ room
+unfolding answer_of room_for number
 found_room size room at {r} {n} j g = go (leb (at + size) room) refl
   where
     go : (b : Bool) → leb (at + size) room ≡ b → at + size ≤ room
     go true e = leb-true (at + size) room e
     go false e = let k : ◌≡◌ {A = ℕ} 0 7 = ap number (rw (e, g) at j) in absurd (omega (arith, k))
 
-pub before_end : (k m at : ℕ) (l : List ℕ) {r : Written} {n : ℕ} → written_of r ≡ room_for (k + m) (length l) at → r ≡ Next n → length l * 1 < 2 ^ 63 → Fits w64 (at + k)
+pub before_end : (k m at : ℕ) (l : List ℕ) {r : Result ℕ Refusal} {n : ℕ} → answer_of r ≡ room_for (k + m) (length l) at → r ≡ Ok n → length l * 1 < 2 ^ 63 → Fits w64 (at + k)
 before_end k m at l j g f = Fits-under w64 (at + k) (2 ^ 63) (omega (arith, found_room (k + m) (length l) at j g)) tt
 
 -- the answers, by what `room_for` gave
 module _ (w l : List ℕ) (at : ℕ) where
-  pub written-so : (size : ℕ) {r q : Written} → size ≡ length w → written_of r ≡ room_for size (length l) at → r ≡ q → written_of q ≡ write_at w (length l) at
+  pub written-so : (size : ℕ) {r q : Result ℕ Refusal} → size ≡ length w → answer_of r ≡ room_for size (length l) at → r ≡ q → answer_of q ≡ write_at w (length l) at
   unfolding write_at
   written-so size e j g = rw g at j ∙ rw e
 
-  pub none_changed : (e : Refusal) → l ≡ after_write (written_of (Refused e)) w l at
-  unfolding written_of after_write
+  pub none_changed : (e : Refusal) → l ≡ after_write (answer_of (Err e)) w l at
+  unfolding answer_of after_write
   none_changed e = refl
 
-  pub all_changed : (n : ℕ) {o : List ℕ} → o ≡ sets l at w → o ≡ after_write (written_of (Next n)) w l at
-  unfolding written_of after_write
+  pub all_changed : (n : ℕ) {o : List ℕ} → o ≡ sets l at w → o ≡ after_write (answer_of (Ok n)) w l at
+  unfolding answer_of after_write
   all_changed n e = e
 
 -- ---- what is inside its range is written, and nothing else
 
-pub outside : (w : List ℕ) (room at : ℕ) {ok : Bool} → ok ≡ false → written_of (Refused NotValid) ≡ write_if ok w room at
-unfolding written_of write_if
+pub outside : (w : List ℕ) (room at : ℕ) {ok : Bool} → ok ≡ false → answer_of (Err NotValid) ≡ write_if ok w room at
+unfolding answer_of write_if
 outside w room at e = rw e
 
 pub accepted : (w : List ℕ) (room at : ℕ) {ok : Bool} {v : List ℕ} {q : Answer ℕ} → ok ≡ true → v ≡ w → q ≡ write_at v room at → q ≡ write_if ok w room at
@@ -168,12 +167,16 @@ none_stand w l at e = ap (λ (x : List ℕ). sets l at x) (not_poured w e)
 -- ---- written by pouring, once it is known that there is room
 
 module _ (w l : List ℕ) (at : ℕ) {ok : Bool} (t : ok ≡ true) where
-  pub poured-so : (size : ℕ) {r q : Written} → size ≡ length (poured ok w) → written_of r ≡ room_for size (length l) at → r ≡ q → written_of q ≡ write_if ok w (length l) at
+  pub poured-so : (size : ℕ) {r q : Result ℕ Refusal} → size ≡ length (poured ok w) → answer_of r ≡ room_for size (length l) at → r ≡ q → answer_of q ≡ write_if ok w (length l) at
   unfolding poured write_if
   poured-so size e j g = rw t (written-so w l at size (rw t at e) j g)
 
-  pub poured-stands : (n : ℕ) {o : List ℕ} → o ≡ sets l at (poured ok w) → o ≡ after_write (written_of (Next n)) w l at
+  pub poured-stands : (n : ℕ) {o : List ℕ} → o ≡ sets l at (poured ok w) → o ≡ after_write (answer_of (Ok n)) w l at
   unfolding poured
   poured-stands n j = all_changed w l at n (rw t at j)
 
 pub ruleset rooms = (at-past, no_room, has_room)
+
+pub ruleset ranged = (none_size, none_stand, pours_size, pours_stand)
+
+pub ruleset writings = (written-so, all_changed, none_changed)

@@ -4,15 +4,7 @@ use Rattle.std.proofs.lemmas.List.Edits.{sets}
 use Rattle.memory.specs.declared.DelMode.{DelMode}
 use Rattle.memory.specs.declared.DelMode.TheVariants.{Data, Filler}
 use Rattle.memory.specs.declared.Remembered.{Remembered}
-use Rattle.refusals.specs.Refusals.{number_of}
 use Rattle.refusals.specs.Answers.{Answer, done, refused, pick}
-use Rattle.wire.specs.declared.Written.{Written}
-use Rattle.wire.specs.declared.Written.TheVariants.{Next, Refused}
-
--- what the answer says; "counts with a refusal are 0"
-unfoldable pub written_of : Written → Answer ℕ
-written_of (Next n) = done n
-written_of (Refused e) = refused (number_of e) 0
 
 -- "the writer in that mode writes it so": a 127 as the pair 27 63
 abbrev pub paired : ℕ → List ℕ

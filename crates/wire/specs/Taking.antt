@@ -3,16 +3,8 @@ use Rattle.std.specs.Prelude.{ℕ, ◌+◌, Bool, ◌&&◌, List, length, get_or
 use Rattle.memory.specs.declared.DelMode.{DelMode}
 use Rattle.memory.specs.declared.DelMode.TheVariants.{Data, Filler}
 use Rattle.memory.specs.declared.Remembered.{Remembered}
-use Rattle.refusals.specs.Refusals.{number_of}
 use Rattle.refusals.specs.declared.Taken.{Taken}
 use Rattle.refusals.specs.Answers.{Answer, done, refused, pick, past_front}
-use Rattle.wire.specs.declared.ByteRead.{ByteRead}
-use Rattle.wire.specs.declared.ByteRead.TheVariants.{Byte, Refused}
-
--- what the answer says
-unfoldable pub byte_of : ByteRead → Answer (Taken ℕ)
-byte_of (Byte b) = done (record { value = b.value; place = b.place; next = b.next })
-byte_of (Refused e p) = refused (number_of e) p
 
 -- a DEL
 abbrev pub is_del : ℕ → Bool

@@ -3,50 +3,28 @@
 
 ghost use Rattle.std.specs.Prelude.{◌≡◌, ◌+◌, [], ◌∷◌, length};
 ghost use Rattle.std.proofs.lemmas.List.Edits.{sets};
-ghost use Rattle.refusals.specs.Answers.{past_front, every};
-ghost use Rattle.wire.specs.Taking.{is_del, past_dels, pair_at, found_at, byte_at, byte_of, most_itself, is_itself};
-ghost use Rattle.wire.specs.Sending.{sent, is_plain, room_for, in_room, write_at, after_write, written_of};
+ghost use Rattle.refusals.specs.Answers.{answer_at, answer_of, past_front, every};
+ghost use Rattle.wire.specs.Taking.{is_del, past_dels, pair_at, found_at, byte_at, most_itself, is_itself};
+ghost use Rattle.wire.specs.Sending.{sent, is_plain, room_for, in_room, write_at, after_write};
 
 use memory::{DelMode, Remembered};
-use refusals::Refusal;
-
-// A byte that was taken, its place, and where reading goes on.
-#[derive(Clone, Copy)]
-pub struct TakenByte {
-    pub value: u8,
-    pub place: usize,
-    pub next: usize,
-}
-
-#[derive(Clone, Copy)]
-pub enum ByteRead {
-    Byte(TakenByte),
-    // the refusal and its place
-    Refused(Refusal, usize),
-}
-
-#[derive(Clone, Copy)]
-pub enum Written {
-    // where the next byte goes
-    Next(usize),
-    Refused(Refusal),
-}
+use refusals::{Refusal, RefusedAt, Taken};
 
 // The first place from `at` on that holds no DEL, or the end.
+#[tactic(auto, using(crate::proofs::Dels::passing))]
 fn behind_dels(s: &[u8], at: usize) -> usize
     ensures { result ≡ past_front is_del s.now at }
 {
-    let mut i = at;
-    while i < s.len() {
+    for i in at..s.len() {
         if s[i] != 127 {
             return i;
         }
-        i = i + 1;
     }
-    i
+    at.max(s.len())
 }
 
 // Where the next byte stands from `at` on: after KI 1 each plain 127 is passed over.
+#[tactic(auto, using(crate::proofs::Dels::dels_data, crate::proofs::Dels::dels_filler))]
 pub fn past_dels(mode: DelMode, s: &[u8], at: usize) -> usize
     ensures { result ≡ past_dels mode s.now at }
 {
@@ -57,61 +35,53 @@ pub fn past_dels(mode: DelMode, s: &[u8], at: usize) -> usize
 }
 
 // What the ESC at `esc` and the byte at `place` behind it are.
-fn pair(s: &[u8], esc: usize, place: usize) -> ByteRead
-    ensures { byte_of result ≡ pair_at s.now esc place }
+#[tactic(auto, using(refusals::proofs::Rules::tests), unfolding(refusals::specs::Answers::answer_at, crate::specs::Taking::pair_at))]
+fn pair(s: &[u8], esc: usize, place: usize) -> Result<Taken<u8>, RefusedAt>
+    ensures { answer_at result ≡ pair_at s.now esc place }
 {
     if place >= s.len() {
-        return ByteRead::Refused(Refusal::BytesEnd, s.len());
+        return Err(Refusal::BytesEnd.at(s.len()));
     }
-    if s[place] == 63 {
-        let next = place + 1;
-        let byte = TakenByte {
-            value: 127,
-            place: place,
-            next: next,
-        };
-        return ByteRead::Byte(byte);
+    if s[place] != 63 {
+        return Err(Refusal::NewEscape.at(esc));
     }
-    ByteRead::Refused(Refusal::NewEscape, esc)
+    Ok(Taken {
+        value: 127,
+        place: place,
+        next: place + 1,
+    })
 }
 
 // The byte that stands at `at`.
-fn found(mode: DelMode, s: &[u8], at: usize) -> ByteRead
-    ensures { byte_of result ≡ found_at mode s.now at }
+#[tactic(auto, using(refusals::proofs::Rules::tests), unfolding(refusals::specs::Answers::answer_at, crate::specs::Taking::found_at))]
+fn found(mode: DelMode, s: &[u8], at: usize) -> Result<Taken<u8>, RefusedAt>
+    ensures { answer_at result ≡ found_at mode s.now at }
 {
     if at >= s.len() {
-        return ByteRead::Refused(Refusal::BytesEnd, s.len());
+        return Err(Refusal::BytesEnd.at(s.len()));
     }
-    let b = s[at];
-    if b == 27 {
-        let place = past_dels(mode, s, at + 1);
-        return pair(s, at, place);
+    match s[at] {
+        27 => pair(s, at, past_dels(mode, s, at + 1)),
+        b @ 32..=127 => Ok(Taken {
+            value: b,
+            place: at,
+            next: at + 1,
+        }),
+        _ => Err(Refusal::ByteNotAllowed.at(at)),
     }
-    if b < 32 {
-        return ByteRead::Refused(Refusal::ByteNotAllowed, at);
-    }
-    if b > 127 {
-        return ByteRead::Refused(Refusal::ByteNotAllowed, at);
-    }
-    let next = at + 1;
-    let byte = TakenByte {
-        value: b,
-        place: at,
-        next: next,
-    };
-    ByteRead::Byte(byte)
 }
 
 // The next byte of a parameter.
-pub fn take(kept: Remembered, s: &[u8], at: usize) -> ByteRead
-    ensures { byte_of result ≡ byte_at kept s.now at }
+#[tactic(auto, using(crate::proofs::Dels::found_behind))]
+pub fn take(kept: Remembered, s: &[u8], at: usize) -> Result<Taken<u8>, RefusedAt>
+    ensures { answer_at result ≡ byte_at kept s.now at }
 {
     let mode = kept.mode;
-    let from = past_dels(mode, s, at);
-    found(mode, s, from)
+    found(mode, s, past_dels(mode, s, at))
 }
 
 // The highest byte that is taken as it stands: a DEL only where it is data.
+#[tactic(auto, unfolding(crate::specs::Taking::most_itself))]
 fn most_itself(mode: DelMode) -> u8
     ensures { result ≡ most_itself mode }
 {
@@ -121,85 +91,71 @@ fn most_itself(mode: DelMode) -> u8
     }
 }
 
+#[tactic(auto, using(refusals::proofs::Rules::tests), unfolding(crate::specs::Taking::is_itself))]
 fn is_itself(mode: DelMode, b: u8) -> bool
     ensures { result ≡ is_itself mode b }
 {
-    if b < 32 {
-        return false;
-    }
-    b <= most_itself(mode)
+    (b >= 32) & (b <= most_itself(mode))
 }
 
 // Whether each of these bytes is taken as it stands. They may then be copied, with nothing asked between one and the next.
+#[tactic(auto, using(refusals::proofs::Many::checkings))]
 pub fn are_themselves(mode: DelMode, w: &[u8]) -> bool
     ensures { result ≡ every (is_itself mode) w.now }
 {
-    let mut i = 0;
+    // with no way out of the middle several bytes are tested at once
     let mut good = true;
-    while i < w.len() {
-        let b = w[i];
-        good = refusals::both(good, is_itself(mode, b));
-        i = i + 1;
+    for b in w {
+        good = good & is_itself(mode, *b);
     }
     good
 }
 
 // Where so many bytes end from `at` on, or 7 where they have too little room.
-pub fn room_for(size: usize, room: usize, at: usize) -> Written
-    ensures { written_of result ≡ room_for size room at }
+#[tactic(auto, using(crate::proofs::Writings::rooms))]
+pub fn room_for(size: usize, room: usize, at: usize) -> Result<usize, Refusal>
+    ensures { answer_of result ≡ room_for size room at }
 {
     if at > room {
-        return Written::Refused(Refusal::TooShort);
+        return Err(Refusal::TooShort);
     }
     if size > room - at {
-        return Written::Refused(Refusal::TooShort);
+        return Err(Refusal::TooShort);
     }
-    let next = at + size;
-    Written::Next(next)
+    Ok(at + size)
 }
 
 // How many of so many bytes from `at` on have room.
 pub fn in_room(size: usize, room: usize, at: usize) -> usize
     ensures { result ≡ in_room size room at }
 {
-    if at > room {
-        return 0;
-    }
-    let free = room - at;
-    if size > free {
-        return free;
-    }
-    size
+    size.min(room.saturating_sub(at))
 }
 
 // The bytes `w` into `out` from `at` on, as far as there is room.
+#[tactic(auto, using(crate::proofs::Writings::copyings))]
 pub fn copy(w: &[u8], out: &mut [u8], at: usize)
     ensures { out.new ≡ sets out.old at w.now }
 {
     let count = in_room(w.len(), out.len(), at);
-    let mut i = 0;
-    while i < count {
-        let to = at + i;
-        out[to] = w[i];
-        i = i + 1;
+    for i in 0..count {
+        out[at + i] = w[i];
     }
 }
 
 // The bytes `w` into `out` from `at` on: all of them, or 7 and none.
-pub fn write_bytes(w: &[u8], out: &mut [u8], at: usize) -> Written
-    ensures { (written_of result ≡ write_at w.now (length out.old) at) × (out.new ≡ after_write (written_of result) w.now out.old at) }
+#[tactic(auto, using(crate::proofs::Writings::writings))]
+pub fn write_bytes(w: &[u8], out: &mut [u8], at: usize) -> Result<usize, Refusal>
+    ensures { (answer_of result ≡ write_at w.now (length out.old) at) × (out.new ≡ after_write (answer_of result) w.now out.old at) }
 {
-    match room_for(w.len(), out.len(), at) {
-        Written::Next(next) => {
-            copy(w, out, at);
-            Written::Next(next)
-        }
-        Written::Refused(e) => Written::Refused(e),
-    }
+    let next = room_for(w.len(), out.len(), at)?;
+    copy(w, out, at);
+    Ok(next)
 }
 
 // One byte as it stands, behind the `n` bytes from `at` on, where there is room. It goes by value: bytes that are stored only to be read
 // again are slow to fetch.
+#[tactic(auto, using(crate::proofs::Sendings::storings))]
 pub fn store_behind(n: usize, b: u8, out: &mut [u8], at: usize)
     ensures { out.new ≡ sets out.old (at + n) (b ∷ []) }
 {
@@ -215,6 +171,7 @@ pub fn store_behind(n: usize, b: u8, out: &mut [u8], at: usize)
 }
 
 // The pair 27 63, likewise.
+#[tactic(auto, using(crate::proofs::Sendings::pairs))]
 fn store_pair(n: usize, out: &mut [u8], at: usize)
     ensures { out.new ≡ sets out.old (at + n) (27 ∷ 63 ∷ []) }
 {
@@ -227,6 +184,7 @@ fn store_pair(n: usize, out: &mut [u8], at: usize)
 }
 
 // A 127 as it is sent: itself, or the pair.
+#[tactic(auto, using(crate::proofs::Sendings::dels))]
 fn pour_del(kept: Remembered, n: usize, out: &mut [u8], at: usize) -> usize
     ensures { (result ≡ length (sent kept (127 ∷ []))) × (out.new ≡ sets out.old (at + n) (sent kept (127 ∷ []))) }
 {
@@ -244,6 +202,7 @@ fn pour_del(kept: Remembered, n: usize, out: &mut [u8], at: usize) -> usize
 }
 
 // One byte of a parameter, as it is sent, behind the `n` bytes from `at` on, as far as there is room.
+#[tactic(auto, using(crate::proofs::Sendings::ones))]
 pub fn pour_behind(kept: Remembered, n: usize, b: u8, out: &mut [u8], at: usize) -> usize
     ensures { (result ≡ length (sent kept (b ∷ []))) × (out.new ≡ sets out.old (at + n) (sent kept (b ∷ []))) }
 {
@@ -256,12 +215,14 @@ pub fn pour_behind(kept: Remembered, n: usize, b: u8, out: &mut [u8], at: usize)
 
 // One, two and three bytes of a parameter, as they are sent, from `at` on as far as there is room. Answers how many they are, so that
 // lending no room finds the length.
+#[tactic(auto, using(crate::proofs::Sendings::one_first))]
 pub fn pour_one(kept: Remembered, a: u8, out: &mut [u8], at: usize) -> usize
     ensures { (result ≡ length (sent kept (a ∷ []))) × (out.new ≡ sets out.old at (sent kept (a ∷ []))) }
 {
     pour_behind(kept, 0, a, out, at)
 }
 
+#[tactic(auto, using(crate::proofs::Writings::more))]
 pub fn pour_two(kept: Remembered, a: u8, b: u8, out: &mut [u8], at: usize) -> usize
     ensures { (result ≡ length (sent kept (a ∷ b ∷ []))) × (out.new ≡ sets out.old at (sent kept (a ∷ b ∷ []))) }
 {
@@ -270,6 +231,7 @@ pub fn pour_two(kept: Remembered, a: u8, b: u8, out: &mut [u8], at: usize) -> us
     n + m
 }
 
+#[tactic(auto, using(crate::proofs::Writings::more))]
 pub fn pour_three(kept: Remembered, a: u8, b: u8, d: u8, out: &mut [u8], at: usize) -> usize
     ensures { (result ≡ length (sent kept (a ∷ b ∷ d ∷ []))) × (out.new ≡ sets out.old at (sent kept (a ∷ b ∷ d ∷ []))) }
 {
@@ -279,12 +241,9 @@ pub fn pour_three(kept: Remembered, a: u8, b: u8, d: u8, out: &mut [u8], at: usi
 }
 
 // Whether each byte is sent as itself. Bytes may then be laid as they are.
+#[tactic(auto, unfolding(crate::specs::Sending::is_plain, crate::specs::Sending::plain_in))]
 pub fn is_plain(kept: Remembered) -> bool
     ensures { result ≡ is_plain kept }
 {
-    let mode = kept.mode;
-    match mode {
-        DelMode::Data => true,
-        DelMode::Filler => false,
-    }
+    kept.mode == DelMode::Data
 }

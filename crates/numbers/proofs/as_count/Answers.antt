@@ -1,16 +1,10 @@
-use Rattle.refusals.proofs.Shut.{opened, closed}
-use Rattle.numbers.proofs.Reading.{count_no, count-minus, count-is, count-over}
+use mir.Syntax.{w32}
+use mir.Val.{SFits}
 use borrow.Author.Rules.{rules}
+use Rattle.numbers.proofs.Reading.{count_is}
 use Rattle.numbers.proofs.as_count.Goals as goal
 
-pub returns-then-is_negative : goal.returns-then-is_negative
-returns-then-is_negative c = opened (search (closed, rules, count-minus))
-
-pub returns-then-m-most : goal.returns-then-m-most
-returns-then-m-most c = opened (search (closed, rules, count-is))
-
-pub returns-else-m-most : goal.returns-else-m-most
-returns-else-m-most c = opened (search (closed, rules, count-over))
-
-pub returns-in-Refused : goal.returns-in-Refused
-returns-in-Refused c = opened (search (closed, rules, count_no))
+pub returns : goal.returns
+returns c =
+    let f : SFits w32 c.in_ok-integer.integer.value = search rules in
+    count_is c.args.most c.in_ok-integer.was f c.is_negative.ensures c.if-is_negative.false c.magnitude-count.ensures c.if-count-most.false
