@@ -2,8 +2,7 @@
 use Rattle.std.proofs.lemmas.Grind.{div_ceil_times}
 use Prim.Native.Nat.{ℕ, suc, min, ◌%◌, ◌+◌, ◌-◌, ◌*◌, ◌/◌, ◌≤◌, ◌<◌}
 use mathlib.Core.Path.{◌≡◌, refl, sym, ◌∙◌}
-use mathlib.Core.Bool.{Bool, true, false, not, cond, ◌&&◌, ◌||◌}
-use Rattle.std.proofs.lemmas.List.Recursion.{is_count_by}
+use mathlib.Core.Bool.{Bool, true, false, not, ◌&&◌, ◌||◌}
 use mathlib.Core.List.{List, map}
 use native.Mathlib.Nat.{pos_of_ne-zero, le-div_iff_mul-le, one-mul, mul-le-mul}
 use native.Mathlib.Omega.{arith}
@@ -17,15 +16,15 @@ use mir.Facts.{to_z-of_z}
 use Rattle.refusals.specs.declared.Refusal.{Refusal}
 use Rattle.refusals.specs.declared.Refusal.TheVariants.{NotValid, RasterCharacters}
 use Rattle.refusals.specs.Refusals.{number_of}
-use Rattle.refusals.specs.Answers.{demand, pick, every, refusal_of}
-use Rattle.std.specs.Prelude.{Ok, Err, count_by}
+use Rattle.refusals.specs.Answers.{demand, every, refusal_of}
+use Rattle.std.specs.Prelude.{Ok, Err}
 use Rattle.refusals.proofs.Cases.{and_left, and_right, bool_apart}
 use Rattle.refusals.proofs.Numbers.{not_nought, met}
 use Rattle.ranges.specs.Ranges.{most_entries}
 use Rattle.ranges.specs.Ranges.{within}
 use Rattle.beam.specs.declared.Beam.{Beam}
 use Rattle.beam.specs.Validity.{is_size, is_bits, on_surface, in_viewport, is_valid}
-use Rattle.pixel_refusals.specs.Tests.{is_surface, is_pixel_number, is_raster, needed, end_of_row, pixel_characters, raster_numbers, raster_characters, run_numbers, write_refusal, raster_refusal, run_refusal}
+use Rattle.pixel_refusals.specs.Tests.{is_surface, is_pixel_number, is_raster, needed, pixel_characters, raster_numbers, raster_characters, run_numbers, write_refusal, raster_refusal, run_refusal}
 
 -- ---- the surface's size
 
@@ -79,17 +78,6 @@ needed_so n b p =
     let low : q ≤ (n + b - 1) / b = (le-div_iff_mul-le p).1 (omega (arith, t)) in
     let high : suc q ≤ (n + b - 1) / b → ⊥ = λ h. omega (arith, (le-div_iff_mul-le p).0 h, t) in
     omega (arith, low, high)
-
--- the characters that hold pixels, as the code counts them
-by_test : (b : Bool) (n : ℕ) → pick b 0 1 + n ≡ cond (not b) (1 + n) n
-by_test true n = omega arith
-by_test false n = refl
-
-pub pixel_characters_by : (list : List ℤ) {k : ℕ} → k ≡ count_by (λ v. not (eqb (nat_abs v) end_of_row)) list → k ≡ pixel_characters (map nat_abs list)
-unfolding pixel_characters
-pixel_characters_by list e =
-    e
-    ∙ sym (is_count_by (λ (l : List ℤ). pixel_characters (map nat_abs l)) (λ v. not (eqb (nat_abs v) end_of_row)) refl (λ v vs. by_test (eqb (nat_abs v) end_of_row) (pixel_characters (map nat_abs vs))) list)
 
 module _ (list : List ℤ) where
   pub few-codes : run_numbers list ≡ true → length list ≤ most_entries
