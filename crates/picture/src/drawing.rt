@@ -1,6 +1,6 @@
 // The picture, a raster write for each row.
-use beam::{Beam, Setting};
-use pixels::Drawing;
+use beam::{Beam, Size};
+use refusals::Refusal;
 
 pub const WIDTH: usize = 480;
 
@@ -40,25 +40,28 @@ fn put_characters(y: usize, list: &mut [i32]) {
     }
 }
 
-fn beam_of(setting: Setting) -> Beam {
+fn beam_of(setting: Result<Beam, Refusal>, old: Beam) -> Beam {
     match setting {
-        Setting::Set(beam) => beam,
-        Setting::Refused(_, beam) => beam,
+        Ok(beam) => beam,
+        Err(_) => old,
     }
 }
 
 fn draw_row(y: usize, beam: Beam, surface: &mut [u8]) -> Beam {
     let mut list = [0; 240];
     put_characters(y, &mut list);
-    match pixels::draw_raster(surface, WIDTH, HEIGHT, beam, 480, &list) {
-        Drawing::Drawn(_, behind) => behind,
-        Drawing::Refused(_, same) => same,
+    match pixels::draw_raster(surface, SIZE, beam, 480, &list) {
+        Ok(drawn) => drawn.beam,
+        Err(_) => beam,
     }
 }
 
+const SIZE: Size = Size { w: WIDTH, h: HEIGHT };
+
 pub fn draw(surface: &mut [u8]) {
-    let fresh = beam_of(beam::fresh(WIDTH, HEIGHT));
-    let mut beam = beam_of(beam::set_bits(WIDTH, HEIGHT, fresh, 1, 11, 3));
+    let none = Beam { bits: 0, left: 0, bottom: 0, right: 0, top: 0, x: 0, y: 0 };
+    let fresh = beam_of(beam::fresh(SIZE), none);
+    let mut beam = beam_of(beam::set_bits(SIZE, fresh, 1, 11, 3), fresh);
     let mut y = 0;
     while y < HEIGHT {
         beam = draw_row(y, beam, surface);
