@@ -178,6 +178,4 @@ module _ (volatile saved : List ℕ) (number : ℤ) (kept : Remembered) {b : Boo
 
 pub ruleset starts = (outside_told, outside-out, unfound_told, unfound_out, first-found, second-found, found_told, found_out)
 
-pub ruleset lookings = (look_refused_told, look_refused_out, short-told, short-out, done-told, done-out)
-
 pub ruleset runs = (ran-start, looked)

@@ -93,5 +93,3 @@ enter_roomy volatile saved number from f fv fs el m r =
     let s : length (looked_up three_bytes volatile saved number) ≤ 256 = looked_up-short volatile saved number in
     let l = ap length (body_is volatile saved number f fv fs el) in
     record { few = omega (arith, m); fits = omega (arith, s, l, m, r.fits) }
-
-pub ruleset enters = (enter_negative, enter_deep, enter_absent, enter_full, enter_roomy, enter_in)

@@ -87,12 +87,6 @@ module _ (volatile saved : List ℕ) (d : ℕ) (body : List ℕ) (from : Expande
       }
 
   module _ {going : Expanded} {i : ℕ} {out : List ℕ} (w : Walking volatile saved d body from out₀ going i out) where
-    pub same-long : length out ≡ length out₀
-    same-long = ap length w.stands ∙ length-sets out₀ from.written w.given
-
-    pub same-ran : {c : Stretch} {at : ℕ} {out' : List ℕ} {r : Result Expanded Refusal} → Ran c at out out' r → length out' ≡ length out₀
-    same-ran {c = c} {at = at} ran = ap length ran.stands ∙ length-sets out at c.bytes ∙ same-long
-
     -- what is run from here is run behind what is given
     ends : (c : Stretch) {out' : List ℕ} {r : Result Expanded Refusal} → walked (call_stretch volatile saved d) (length body - i + 1) body i going.kept going.entered ≡ c → Ran c going.written out out' r → Ran (body_stretch volatile saved d body from.kept from.entered) from.written out₀ out' r
     ends c {out' = out'} {r = r} e ran =
@@ -189,5 +183,3 @@ module _ (volatile saved : List ℕ) (d : ℕ) (body : List ℕ) (from : Expande
               let q = was_refused going.written called ran-called.told e in
               let step : and_then called (walked (call_stretch volatile saved d) (length body - i) body next) ≡ called = rw q.0 in
               ends called (here-is (Ok (Piece.Called number next after)) (of-kind g) ∙ step) (subst (Ran called going.written out out') e ran-called)
-
-pub ruleset walks = (walking_none, walked_end, piece-refused, walked-refused, copied-from, copied-to, copied-less, copied-counts, walking_copied, called-less, called-roomy, walking_called)
