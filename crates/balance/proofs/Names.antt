@@ -17,7 +17,7 @@ use Rattle.pixel_refusals.specs.Tests.{per_character, end_of_row, is_raster, pix
 use Rattle.pixels.specs.Marks.{Mark, ink, gap, moved, row_end, colours}
 use Rattle.pixels.specs.Writes.{pixels, character_marks, left_after, raster_marks, run, run_marks, run_total, written, draw_raster, draw_runs, raster_of}
 use Rattle.pixels.proofs.Laying.{moved-bits}
-use Rattle.pixel_refusals.proofs.Looking.{some-per_character, raster-passed, raster-enough, raster-within}
+use Rattle.pixel_refusals.proofs.Looking.{some_per_character, raster-passed, raster-enough, raster-within}
 use Rattle.balance.specs.Balance.{Call, raster, runs, bits, State, raster_outcome, runs_outcome, refusal, after, returned, named, named_by, inks, is_row_end, no_row_end, no_row_ends}
 
 colours-append : (xs ys : List Mark) → colours (xs ++ ys) ≡ colours xs ++ colours ys
@@ -171,7 +171,7 @@ tally_accepted : (w h size : ℕ) (beam : Beam) (n : ℤ) (chs : List ℤ) → r
 tally_accepted w h size beam n chs e =
     let b = beam.bits in
     let p = raster-passed w h size beam n chs e in
-    let m : nat_abs n ≤ 6 / b * pixel_characters (map nat_abs chs) = rw (raster-enough w h size beam n chs e) (enough (6 / b) (nat_abs n) (some-per_character b p.some p.six)) in
+    let m : nat_abs n ≤ 6 / b * pixel_characters (map nat_abs chs) = rw (raster-enough w h size beam n chs e) (enough (6 / b) (nat_abs n) (some_per_character b p.some p.six)) in
     tally_raster b beam refl (nat_abs n) (map nat_abs chs) ∙ min-eq_left m
 
 -- ---- a call returns as many as it names

@@ -1,12 +1,11 @@
 -- "RU, RS, RH and the making of a fresh record take W and H without the lent bytes: 11 for either outside 1..512, then 8 for the record, 8 for
 -- the values. Where a fresh record is refused, all its fields are 0."
-use Rattle.std.specs.Prelude.{ℕ, ◌+◌, ◌-◌, min, max, Bool, true, false, ◌&&◌, ltb, eqb, ℤ, pos, negsuc, nat_abs}
+use Rattle.std.specs.Prelude.{ℕ, ◌+◌, ◌-◌, min, max, Bool, true, false, ◌&&◌, ltb, eqb, ℤ, pos, negsuc, nat_abs, Result, Ok, Err}
+use Rattle.refusals.specs.declared.Refusal.{Refusal}
 use Rattle.refusals.specs.Refusals.{number_of}
 use Rattle.refusals.specs.Answers.{pick, demand}
 use Rattle.memory.specs.declared.Point.{Point}
 use Rattle.beam.specs.declared.Beam.{Beam}
-use Rattle.beam.specs.declared.Setting.{Setting}
-use Rattle.beam.specs.declared.Setting.TheVariants.{Set, Refused}
 use Rattle.beam.specs.Validity.{is_size, is_bits, on_surface, in_viewport, is_valid}
 
 -- what a call on the record gives back: 0 or the refusal's number, and a record
@@ -14,10 +13,10 @@ pub record Settled : Type 0 where
   pub number : ℕ
   pub after : Beam
 
--- what the answer says
-unfoldable pub setting_of : Setting → Settled
-setting_of (Set r) = record { number = 0; after = r }
-setting_of (Refused e r) = record { number = number_of e; after = r }
+-- what the answer of a call on the record `came` says: where it is refused, the record is as it came
+unfoldable pub settled_by : (came : Beam) → Result Beam Refusal → Settled
+settled_by came (Ok r) = record { number = 0; after = r }
+settled_by came (Err e) = record { number = number_of e; after = came }
 
 -- the new record; where the call is refused, the record as it came
 abbrev pub unless_refused : ℕ → (new old : Beam) → Settled

@@ -1,12 +1,13 @@
 -- Two conforming answers of `read_command` coincide: values and tail fix the parameters.
 use mathlib.Core.Path.{◌≡◌, ap}
+use Rattle.std.specs.Prelude.{Result, Ok, Err}
+use Rattle.refusals.specs.declared.Refusal.{Refusal}
+use Rattle.refusals.specs.declared.RefusedAt.{RefusedAt}
 use Rattle.refusals.specs.Answers.{Answer, done, refused}
 use Rattle.refusals.proofs.Coinciding.{named, named_back, coincide}
 use Rattle.parameters.proofs.Coinciding.{parameters_for, parameters-for}
 use Rattle.commands.specs.declared.Command.{Command}
 use Rattle.commands.specs.declared.TakenCommand.{TakenCommand}
-use Rattle.commands.specs.declared.CommandRead.{CommandRead}
-use Rattle.commands.specs.declared.CommandRead.TheVariants.{Whole}
 use Rattle.commands.specs.Reading.{ToldCommand, tell_taken, command_of}
 
 abbrev pub command_for : ToldCommand → Command
@@ -23,14 +24,14 @@ pub taken-for : (t : TakenCommand) → taken_for (tell_taken t) ≡ t
 unfolding taken_for
 taken-for t = ap (λ c. record { command = c; count = t.count; next = t.next; kept = t.kept }) (command-for t)
 
-command-back : Answer ToldCommand → CommandRead
-command-back (done t) = Whole (taken_for t)
-command-back (refused e p) = CommandRead.Refused (named e) p
+command-back : Answer ToldCommand → Result TakenCommand RefusedAt
+command-back (done t) = Ok (taken_for t)
+command-back (refused e p) = Err (record { refusal = named e; place = p })
 
-command-same : (r : CommandRead) → command-back (command_of r) ≡ r
+command-same : (r : Result TakenCommand RefusedAt) → command-back (command_of r) ≡ r
 unfolding command_of command-back
-command-same (Whole t) = ap Whole (taken-for t)
-command-same (CommandRead.Refused e p) = ap (λ x. CommandRead.Refused x p) (named_back e)
+command-same (Ok t) = ap Ok (taken-for t)
+command-same (Err e) = ap (λ (x : Refusal). Err (record { refusal = x; place = e.place })) (named_back e.refusal)
 
-pub commands_coincide : {x y : CommandRead} {d : Answer ToldCommand} → command_of x ≡ d → command_of y ≡ d → x ≡ y
+pub commands_coincide : {x y : Result TakenCommand RefusedAt} {d : Answer ToldCommand} → command_of x ≡ d → command_of y ≡ d → x ≡ y
 commands_coincide = coincide command_of command-back command-same

@@ -18,10 +18,7 @@ use Rattle.parameters.specs.declared.Numbers.{Numbers}
 use Rattle.parameters.specs.declared.Parameters.{Parameters}
 use Rattle.parameters.specs.Shapes.{values_of}
 use Rattle.parameters.specs.Numbers.{numbers_of, no_values, four_of, Holds}
-use Rattle.parameters.specs.declared.TakenParameters.{TakenParameters}
-use Rattle.commands.specs.declared.TakenCommand.{TakenCommand}
 use Rattle.commands.specs.Behind.{leading, is_ignore_deletes, mode_by, after_letters}
-use Rattle.commands.specs.Reading.{command_of_letters}
 
 -- ---- the first number
 
@@ -76,7 +73,3 @@ module _ (kept : Remembered) (a b : ℕ) (v : ℤ) {t : Bool} (et : t ≡ is_ign
 
 pub ki_behind : (kept : Remembered) (a b : ℕ) (v : ℤ) {x : ℤ} {k : Remembered} → x ≡ v → SFits w32 x → k ≡ after_letters kept a b (to_z w32 (of_z w32 x)) → k ≡ after_letters kept a b v
 ki_behind kept a b v i f j = j ∙ rw (to_z-of_z f, i)
-
-pub lettered : (a b : ℕ) (t : TakenParameters) {k : Remembered} → k ≡ after_letters t.kept a b (leading (values_of t.parameters)) → ◌≡◌ {A = TakenCommand} (record { command = record { first = a; second = b; parameters = t.parameters }; count = t.run.count; next = t.next; kept = k }) (command_of_letters a b t)
-unfolding command_of_letters
-lettered a b t e = rw e

@@ -1,8 +1,9 @@
 -- "A command is ESC (27), two capital letters, then its parameters."
-use Rattle.std.specs.Prelude.{ℕ, ◌+◌, List, length, get_or, ltb, leb, eqb, ℤ}
+use Rattle.std.specs.Prelude.{Result, Ok, Err, ℕ, ◌+◌, List, length, get_or, ltb, leb, eqb, ℤ}
 use Rattle.std.proofs.lemmas.List.Edits.{sets}
 use Rattle.memory.specs.declared.DelMode.{DelMode}
 use Rattle.memory.specs.declared.Remembered.{Remembered}
+use Rattle.refusals.specs.declared.RefusedAt.{RefusedAt}
 use Rattle.refusals.specs.Refusals.{number_of}
 use Rattle.refusals.specs.declared.Taken.{Taken}
 use Rattle.refusals.specs.Answers.{Answer, done, refused, then, pick}
@@ -12,11 +13,7 @@ use Rattle.parameters.specs.declared.TakenParameters.{TakenParameters}
 use Rattle.parameters.specs.Shapes.{Tailed, Value, shape_of, values_of, tail_of}
 use Rattle.parameters.specs.Looking.{Parsed, parameters_at, parsed_entries}
 use Rattle.commands.specs.declared.TakenCommand.{TakenCommand}
-use Rattle.commands.specs.declared.CommandRead.{CommandRead}
-use Rattle.commands.specs.declared.CommandRead.TheVariants.{Whole}
 use Rattle.commands.specs.declared.TakenLetters.{TakenLetters}
-use Rattle.commands.specs.declared.HeadRead.{HeadRead}
-use Rattle.commands.specs.declared.HeadRead.TheVariants.{Head}
 use Rattle.commands.specs.Behind.{leading, after_letters, after_command}
 
 -- ---- the letters
@@ -42,9 +39,9 @@ pub record Letters : Type 0 where
 abbrev pub letters_of : TakenLetters → Letters
 letters_of h = record { first = h.first; second = h.second; kind = kind_meant h.kind; next = h.next }
 
-unfoldable pub head_of : HeadRead → Answer Letters
-head_of (Head h) = done (letters_of h)
-head_of (HeadRead.Refused e p) = refused (number_of e) p
+unfoldable pub head_of : Result TakenLetters RefusedAt → Answer Letters
+head_of (Ok h) = done (letters_of h)
+head_of (Err e) = refused (number_of e.refusal) e.place
 
 abbrev pub completed : ℕ → Taken ℕ → Tabled → Answer Letters
 completed a b (in_table k) = done (record { first = a; second = b.value; kind = k; next = b.next })
@@ -127,13 +124,13 @@ unfoldable pub command_of_letters : (first second : ℕ) → TakenParameters →
 command_of_letters first second t = record {
   command = record { first = first; second = second; parameters = t.parameters };
   count = t.run.count;
-  next = t.next;
+  next = t.run.next;
   kept = after_letters t.kept first second (leading (values_of t.parameters));
 }
 
-unfoldable pub command_of : CommandRead → Answer ToldCommand
-command_of (Whole t) = done (tell_taken t)
-command_of (CommandRead.Refused e p) = refused (number_of e) p
+unfoldable pub command_of : Result TakenCommand RefusedAt → Answer ToldCommand
+command_of (Ok t) = done (tell_taken t)
+command_of (Err e) = refused (number_of e.refusal) e.place
 
 -- "Beyond the result a lent list .. is unchanged"
 unfoldable pub after_entries : Answer Meaning → List ℤ → List ℤ

@@ -1,20 +1,10 @@
 -- Two conforming answers of `define` coincide. The store after it is fixed as it stands.
 use Prim.Native.Nat.{ℕ}
-use mathlib.Core.Path.{◌≡◌, refl, ap}
-use lib.Dec.{eqb}
-use Rattle.refusals.specs.Answers.{pick}
-use Rattle.refusals.proofs.Numbers.{not_nought}
-use Rattle.refusals.proofs.Coinciding.{named, named_back, coincide}
-use Rattle.defining.specs.declared.Defining.{Defining}
-use Rattle.defining.specs.Defining.{defining_of}
+use mathlib.Core.Path.{◌≡◌}
+use Rattle.std.specs.Prelude.{Result}
+use Rattle.refusals.specs.declared.Refusal.{Refusal}
+use Rattle.refusals.specs.Answers.{refusal_of}
+use Rattle.macros.proofs.Coinciding.{findings_coincide}
 
-defining_back : ℕ → Defining
-defining_back k = pick (eqb k 0) Defining.Defined (Defining.Refused (named k))
-
-defining_same : (r : Defining) → defining_back (defining_of r) ≡ r
-unfolding defining_of defining_back
-defining_same Defining.Defined = refl
-defining_same (Defining.Refused e) = rw (not_nought e) (ap Defining.Refused (named_back e))
-
-pub definings_coincide : {x y : Defining} {d : ℕ} → defining_of x ≡ d → defining_of y ≡ d → x ≡ y
-definings_coincide = coincide defining_of defining_back defining_same
+pub definings_coincide : {x y : Result (Unit {0}) Refusal} {d : ℕ} → refusal_of x ≡ d → refusal_of y ≡ d → x ≡ y
+definings_coincide = findings_coincide

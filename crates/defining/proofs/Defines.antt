@@ -17,7 +17,7 @@ use Rattle.macros.specs.Store.{Layout, size_of, stored, are_body, entries, well_
 use Rattle.macros.specs.Fronts.{Bytes}
 use Rattle.macros.proofs.Layouts.{Lawful}
 use Rattle.macros.proofs.Listing.{entries-rising, size-inside, stored-long, formed-stored}
-use Rattle.macros.proofs.Stores.{Holds, holds_formed, holds_entries, looked_alike, looked_so}
+use Rattle.macros.proofs.StoreLaws.{Holds, holds_formed, holds_entries, looked_alike, looked_so}
 use Rattle.defining.specs.Defining.{may_define, entries_after, before_room, define_refusal, store_after}
 use Rattle.defining.proofs.Putting.{put-rising, put-nothing, put-found, put-others}
 

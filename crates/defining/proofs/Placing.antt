@@ -1,11 +1,11 @@
 -- What defining a macro does to the bytes of a store, and its tests in their order, by what the parts gave.
 use Prim.Native.Nat.{ℕ, ◌+◌, ◌-◌, ◌≤◌, ◌<◌}
 use mathlib.Core.Path.{◌≡◌, refl, sym, ◌∙◌, ap}
-use mathlib.Core.Bool.{Bool, true, false, not, ◌&&◌}
+use mathlib.Core.Bool.{Bool, true, false, ◌&&◌}
 use mathlib.Core.List.{List, [], ◌∷◌, ◌++◌, map, append-nil, append_assoc}
 use native.Mathlib.Omega.{arith}
 use native.Mathlib.Numerals.{add-one}
-use borrow.Author.Tests.{le-leb, lt-leb, leb-true, not-true, not-false}
+use borrow.Author.Tests.{le-leb, lt-leb, leb-true}
 use lib.Dec.{leb}
 use lib.ListN.{length, take, drop, replicate, length-append, length-replicate, length-take, length-drop, length-map, take-append-drop}
 use lib.Seq.{sets, sets-eq, length-sets, take-add, drop-drop, take_at, drop_at, drop-append-add}
@@ -25,17 +25,19 @@ use Rattle.ranges.proofs.Entries.{within-range}
 use Rattle.characters.specs.Characters.{low_bytes}
 use Rattle.characters.proofs.Entries.{all_bytes}
 use Rattle.macros.specs.declared.Gap.{Gap}
-use Rattle.macros.specs.declared.Survey.{Survey}
-use Rattle.macros.specs.declared.Survey.TheVariants.{Formed, Malformed}
-use Rattle.defining.specs.declared.Defining.TheVariants as Defining
+use Rattle.std.specs.Prelude.{Option, Some, None, Ok, Err}
+use Rattle.refusals.specs.Answers.{refusal_of}
 use Rattle.macros.specs.Store.{Entry, Layout, encoded, size_of, stored, entries, well_formed, keep, below, is_macro_number, entry_size}
 use Rattle.macros.specs.Fronts.{Bytes, GapIs, SurveyIs}
-use Rattle.defining.specs.Defining.{above, one, put, may_define, before_room, define_refusal, store_after, defining_of, fits_in, put_in}
+use Rattle.defining.specs.Defining.{above, one, put, may_define, before_room, define_refusal, store_after, fits_in, put_in}
 use Rattle.macros.proofs.Layouts.{Lawful, three-size, three-longest, three-lawful}
 use Rattle.macros.proofs.Reading.{size-cons, size-nil, and_no, room-none, room-some, room-header}
 use Rattle.macros.proofs.Listing.{entries-rising, whole-store}
 use Rattle.macros.proofs.Fronts.{formed-of, malformed_of}
 use Rattle.defining.proofs.Putting.{parted}
+use Rattle.defining.proofs.Writing.{moved, cleared}
+use Rattle.std.specs.List.{copy_within}
+use borrow.Rule.Slice.PartMut.{put_mid}
 
 pub ruleset rooms = (three-size, room-none, room-some)
 
@@ -183,9 +185,13 @@ module _ (L : Layout) (lawful : Lawful L) (s : List ℕ) (n : ℕ) (cs : List �
       ∙ omega (arith, size-append L (one n b) (above n old-entries), size-one, gap.at, gap.old, gap.end, size_above L lawful s n gap.bytes)
 
   module _ (short : length s - (g.at + (g.end - g.old)) < size) where
-    pub no_fit : false ≡ fits_in L s n b
+    no_fit : false ≡ fits_in L s n b
     unfolding fits_in
     no_fit = sym (lt-leb (size_of L (put n b old-entries)) (length s) (omega (arith, size-put, short, gap.forth, gap.further, gap.inside)))
+
+    pub too_short : refusal_of {A = Unit {0}} (Err StoreTooShort) ≡ demand (fits_in L s n b) 13 0
+    unfolding refusal_of
+    too_short = rw (← no_fit)
 
     pub not_touched : s ≡ put_in L s n b
     unfolding put_in
@@ -195,11 +201,15 @@ module _ (L : Layout) (lawful : Lawful L) (s : List ℕ) (n : ℕ) (cs : List �
     all_fit : size_of L (put n b old-entries) ≤ length s
     all_fit = omega (arith, size-put, fit, gap.forth, gap.further, gap.inside)
 
-    pub a_fit : true ≡ fits_in L s n b
+    a_fit : true ≡ fits_in L s n b
     unfolding fits_in
     a_fit = sym (le-leb (size_of L (put n b old-entries)) (length s) all_fit)
 
-    pub rewritten : {t u v : List ℕ} → t ≡ sets s (g.at + size) (take (g.end - g.old) (drop g.old s)) → u ≡ sets t g.at (encoded L (one n b))
+    pub in_room : refusal_of {A = Unit {0}} (Ok tt) ≡ demand (fits_in L s n b) 13 0
+    unfolding refusal_of
+    in_room = rw (← a_fit)
+
+    rewritten : {t u v : List ℕ} → t ≡ sets s (g.at + size) (take (g.end - g.old) (drop g.old s)) → u ≡ sets t g.at (encoded L (one n b))
         → v ≡ sets u (g.at + size + (g.end - g.old)) (replicate (length u - (g.at + size + (g.end - g.old))) 0) → v ≡ put_in L s n b
     unfolding put_in
     rewritten {t} {u} {v} et eu ev =
@@ -223,7 +233,17 @@ module _ (L : Layout) (lawful : Lawful L) (s : List ℕ) (n : ℕ) (cs : List �
         ∙ ap (λ (l : List ℕ). l ++ Z) (sym (encoded-append L (below n old-entries) (one n b ++ above n old-entries)))
         ∙ ap (λ (k : ℕ). encoded L (put n b old-entries) ++ replicate (length s - k) 0) zp)
 
-pub ruleset placings = (three-size, three-lawful, no_fit, not_touched, a_fit, rewritten)
+    -- the same of what the code moves, writes and clears
+    pub in_place : {t u ys : List ℕ} → t ≡ copy_within s g.old g.end (g.at + size) → u ≡ sets t g.at (encoded L (one n b))
+        → ys ≡ replicate (length (take (length u - (g.at + size + (g.end - g.old))) (drop (g.at + size + (g.end - g.old)) u))) 0
+        → put_mid (g.at + size + (g.end - g.old)) (length u - (g.at + size + (g.end - g.old))) u ys ≡ put_in L s n b
+    in_place {t} {u} {ys} et eu ey =
+        let room : g.at + size + (g.end - g.old) ≤ length s = omega (arith, fit, gap.forth, gap.further, gap.inside) in
+        let mt = moved s g.old g.end (g.at + size) gap.further gap.inside room et in
+        let lu : length u ≡ length s = ap length eu ∙ length-sets t g.at (encoded L (one n b)) ∙ ap length mt ∙ length-sets s (g.at + size) (take (g.end - g.old) (drop g.old s)) in
+        rewritten mt eu (cleared u (g.at + size + (g.end - g.old)) (omega (arith, lu, room)) ey)
+
+pub ruleset placings = (three-size, three-lawful, too_short, not_touched, in_room, in_place)
 
 -- ---- 8
 
@@ -255,27 +275,27 @@ goes_on a b next x y = rw (x, y)
 
 module _ (L : Layout) (s : List ℕ) (n : ℤ) (cs : List ℤ) where
   module _ (e : Refusal) (q : define_refusal L s n cs ≡ number_of e) where
-    refused-said : defining_of (Defining.Refused e) ≡ define_refusal L s n cs
-    unfolding defining_of
+    refused-said : refusal_of {A = Unit {0}} (Err e) ≡ define_refusal L s n cs
+    unfolding refusal_of
     refused-said = sym q
 
     refused-kept : s ≡ store_after L s n cs
     unfolding store_after
     refused-kept = rw (q, not_nought e)
 
-  module _ {k : ℕ} (ek : k ≡ nat_abs (to_z w32 (of_z w32 n))) {r : Survey} (er : SurveyIs L s k r) where
-    module _ (e : r ≡ Malformed) where
+  module _ {k : ℕ} (ek : k ≡ nat_abs (to_z w32 (of_z w32 n))) {r : Option Gap} (er : SurveyIs L s k r) where
+    module _ (e : r ≡ None) where
       twelve : define_refusal L s n cs ≡ 12
       unfolding define_refusal before_room
       twelve = rw (malformed_of L s k er e)
 
-      pub malformed : defining_of (Defining.Refused StoreMalformed) ≡ define_refusal L s n cs
+      pub malformed : refusal_of {A = Unit {0}} (Err StoreMalformed) ≡ define_refusal L s n cs
       malformed = refused-said StoreMalformed twelve
 
       pub malformed_kept : s ≡ store_after L s n cs
       malformed_kept = refused-kept StoreMalformed twelve
 
-    module _ {g : Gap} (eg : r ≡ Formed g) where
+    module _ {g : Gap} (eg : r ≡ Some g) where
       pub gap-known : GapIs L s k g
       gap-known = (formed-of L s k er eg).gap
 
@@ -283,21 +303,21 @@ module _ (L : Layout) (s : List ℕ) (n : ℤ) (cs : List ℤ) where
         may_is : {t : Bool} → w ≡ t → may_define L n cs ≡ t
         may_is e = sym (rw (to_z-of_z f) at ew) ∙ e
 
-        module _ (t : not w ≡ true) where
+        module _ (t : w ≡ false) where
           eight : define_refusal L s n cs ≡ 8
           unfolding define_refusal before_room
-          eight = rw ((formed-of L s k er eg).formed, may_is (not-true w t))
+          eight = rw ((formed-of L s k er eg).formed, may_is t)
 
-          pub may_not : defining_of (Defining.Refused NotValid) ≡ define_refusal L s n cs
+          pub may_not : refusal_of {A = Unit {0}} (Err NotValid) ≡ define_refusal L s n cs
           may_not = refused-said NotValid eight
 
           pub may_not_kept : s ≡ store_after L s n cs
           may_not_kept = refused-kept NotValid eight
 
-        module _ (t : not w ≡ false) where
+        module _ (t : w ≡ true) where
           allowed : is_macro_number n && (leb (length cs) L.longest && every (within 0 127) cs) ≡ true
           unfolding may_define
-          allowed = may_is (not-false w t)
+          allowed = may_is t
 
           contents_allowed : leb (length cs) L.longest && every (within 0 127) cs ≡ true
           contents_allowed = and_right (is_macro_number n) (leb (length cs) L.longest && every (within 0 127) cs) allowed
@@ -318,29 +338,21 @@ module _ (L : Layout) (s : List ℕ) (n : ℤ) (cs : List ℤ) where
               let h : nat_abs n ≤ 32767 = (within-range 0 32767 n (and_left (is_macro_number n) (leb (length cs) L.longest && every (within 0 127) cs) allowed)).1.0 in
               omega (arith, number_is, h)
 
-          module _ {q : Bool} (eq : q ≡ fits_in L s k (map nat_abs cs)) where
-            last : define_refusal L s n cs ≡ demand q 13 0
-            unfolding define_refusal before_room fits_in
-            last =
-                goes_on (well_formed L s) (may_define L n cs) _ (formed-of L s k er eg).formed (may_is (not-false w t))
-                ∙ ap (λ (m : ℕ). demand (leb (size_of L (put m (map nat_abs cs) (entries L s))) (length s)) 13 0) (sym number_is)
-                ∙ ap (λ (x : Bool). demand x 13 0) (sym eq)
+          last : define_refusal L s n cs ≡ demand (fits_in L s k (map nat_abs cs)) 13 0
+          unfolding define_refusal before_room fits_in
+          last =
+              goes_on (well_formed L s) (may_define L n cs) _ (formed-of L s k er eg).formed (may_is t)
+              ∙ ap (λ (m : ℕ). demand (leb (size_of L (put m (map nat_abs cs) (entries L s))) (length s)) 13 0) (sym number_is)
 
-            module _ {u : List ℕ} (eu : u ≡ put_in L s k (map nat_abs cs)) where
-              pub is-defined : q ≡ true → defining_of Defining.Defined ≡ define_refusal L s n cs
-              unfolding defining_of
-              is-defined e = sym (last ∙ rw e)
+          pub is-defined : {a : ℕ} → a ≡ demand (fits_in L s k (map nat_abs cs)) 13 0 → a ≡ define_refusal L s n cs
+          is-defined ea = ea ∙ sym last
 
-              pub store-defined : q ≡ true → u ≡ store_after L s n cs
-              unfolding store_after put_in
-              store-defined e = rw (last, e) (eu ∙ rw (← eq, e) (ap (λ (m : ℕ). stored L (length s) (put m (map nat_abs cs) (entries L s))) number_is))
+          pub store-defined : {u : List ℕ} → u ≡ put_in L s k (map nat_abs cs) → u ≡ store_after L s n cs
+          unfolding store_after put_in
+          store-defined {u} eu = go (fits_in L s k (map nat_abs cs)) refl
+            where
+              go : (q : Bool) → fits_in L s k (map nat_abs cs) ≡ q → u ≡ store_after L s n cs
+              go true e = rw (last, e) (eu ∙ rw e (ap (λ (m : ℕ). stored L (length s) (put m (map nat_abs cs) (entries L s))) number_is))
+              go false e = rw (last, e) (eu ∙ rw e)
 
-              pub does_not_fit : q ≡ false → defining_of (Defining.Refused StoreTooShort) ≡ define_refusal L s n cs
-              unfolding defining_of
-              does_not_fit e = sym (last ∙ rw e)
-
-              pub store_kept : q ≡ false → u ≡ store_after L s n cs
-              unfolding store_after put_in
-              store_kept e = rw (last, e) (eu ∙ rw (← eq, e))
-
-pub ruleset definings = (three-longest, malformed, malformed_kept, gap-known, may_not, may_not_kept, count-allowed, bytes-allowed, number-allowed, is-defined, store-defined, does_not_fit, store_kept)
+pub ruleset definings = (three-longest, malformed, malformed_kept, gap-known, may_not, may_not_kept, count-allowed, bytes-allowed, number-allowed, is-defined, store-defined)

@@ -1,10 +1,8 @@
 -- "Macros": what defining makes of a store, as a list of entries and as bytes.
 use Rattle.std.specs.Prelude.{ℕ, Bool, ◌&&◌, List, [], ◌∷◌, ◌++◌, map, length, leb, ltb, eqb, ℤ, nat_abs}
-use Rattle.refusals.specs.Refusals.{number_of}
 use Rattle.refusals.specs.Answers.{pick, demand, every}
 use Rattle.ranges.specs.Ranges.{within}
 use Rattle.macros.specs.Store.{Entry, Layout, size_of, stored, entries, well_formed, keep, below, is_macro_number}
-use Rattle.defining.specs.declared.Defining.{Defining}
 
 -- ---- one macro put in its place
 
@@ -42,11 +40,6 @@ define_refusal L s n contents = before_room L s n contents (demand (leb (size_of
 unfoldable pub store_after : Layout → List ℕ → ℤ → List ℤ → List ℕ
 store_after L s n contents =
     pick (eqb (define_refusal L s n contents) 0) (stored L (length s) (entries_after L s n contents)) s
-
--- what the answer says: 0 or the refusal's number
-unfoldable pub defining_of : Defining → ℕ
-defining_of Defining.Defined = 0
-defining_of (Defining.Refused e) = number_of e
 
 -- ---- the same of the macro's number and the bytes of its body
 

@@ -25,12 +25,14 @@ use Rattle.numbers.proofs.Shortest.{count-shown}
 use Rattle.points.specs.declared.PointBytes.{PointBytes}
 use Rattle.points.specs.Layout.{bytes_of}
 use Rattle.points.specs.Reading.{by_kind, not_allowed, with_hi_y, with_extra, with_lo_y, with_hi_x, ends_at, lo_x, last_at, after_lo_y, after_upper, after_hi_y, point_from, point_at}
+use Rattle.parameters.specs.declared.TwoEntries.{TwoEntries}
+use Rattle.parameters.specs.declared.CountedRun.{CountedRun}
 use Rattle.parameters.specs.declared.Entry.{Entry}
 use Rattle.parameters.specs.declared.Entry.TheVariants.{AnInteger, ACharacter}
-use Rattle.parameters.specs.Entries.{entry_at, entry_values, CountedRun, run_at}
+use Rattle.parameters.specs.Entries.{entry_at, entry_values, run_at}
 use Rattle.parameters.specs.Shapes.{Tailed, no_list, list_of, Part, single, real, point, Shape, Value}
 use Rattle.parameters.specs.Behind.{after_values}
-use Rattle.parameters.specs.Looking.{TwoEntries, two_entries_at, Fixed, part_at, fixed_at, tail_at, Parsed, parameters_at, entry_in, parsed_entries}
+use Rattle.parameters.specs.Looking.{two_entries_at, Fixed, part_at, fixed_at, tail_at, Parsed, parameters_at, entry_in, parsed_entries}
 use Rattle.parameters.proofs.Kept.{fixed_kept}
 use Rattle.writing.proofs.Sizes.{values-mode}
 use Rattle.laws.proofs.Shortest.{entry_good, FixedShown, part-good, fixed-good}

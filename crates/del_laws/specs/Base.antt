@@ -14,9 +14,10 @@ use Rattle.numbers.specs.Counts.{count_in}
 use Rattle.points.specs.declared.PointBytes.{PointBytes}
 use Rattle.points.specs.Layout.{bytes_of}
 use Rattle.points.specs.Reading.{not_allowed, with_hi_y, with_extra, with_lo_y, with_hi_x, lo_x}
+use Rattle.parameters.specs.declared.CountedRun.{CountedRun}
 use Rattle.parameters.specs.declared.Entry.{Entry}
 use Rattle.parameters.specs.declared.Entry.TheVariants.{AnInteger, ACharacter}
-use Rattle.parameters.specs.Entries.{as_entry, CountedRun}
+use Rattle.parameters.specs.Entries.{as_entry}
 use Rattle.parameters.specs.Shapes.{Tailed, no_list, list_of, Part, single, real, point, Shape, number, scaled, place}
 use Rattle.parameters.specs.Looking.{Fixed, Parsed, entry_in}
 

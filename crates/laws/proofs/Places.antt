@@ -25,11 +25,13 @@ use Rattle.numbers.specs.Counts.{count_in, count_at}
 use Rattle.points.specs.declared.PointBytes.{PointBytes}
 use Rattle.points.specs.Layout.{bytes_of}
 use Rattle.table.specs.Table.{ParameterKind, Tabled, in_table, not_in_table, kind_of, begins}
+use Rattle.parameters.specs.declared.TwoEntries.{TwoEntries}
+use Rattle.parameters.specs.declared.CountedRun.{CountedRun}
 use Rattle.parameters.specs.declared.Entry.{Entry}
 use Rattle.parameters.specs.declared.Entry.TheVariants.{AnInteger, ACharacter}
-use Rattle.parameters.specs.Entries.{entry_at, as_entry, CountedRun, run_at}
+use Rattle.parameters.specs.Entries.{entry_at, as_entry, run_at}
 use Rattle.parameters.specs.Shapes.{Tailed, no_list, list_of, Part, single, real, point, Value, shape_of}
-use Rattle.parameters.specs.Looking.{TwoEntries, two_entries_at, Fixed, part_at, fixed_at, tail_at, Parsed, parameters_at}
+use Rattle.parameters.specs.Looking.{two_entries_at, Fixed, part_at, fixed_at, tail_at, Parsed, parameters_at}
 use Rattle.points.specs.Reading.{by_kind, not_allowed, ends_at, lo_x, last_at, after_lo_y, after_upper, after_hi_y, point_from, point_at}
 use Rattle.commands.specs.Reading.{letter_here, letter_at, Letters, completed, second_at, head_at, Meaning, body_at, command_at}
 use Rattle.writable.specs.Writable.{is_value, are_values}

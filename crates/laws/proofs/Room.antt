@@ -25,9 +25,10 @@ use Rattle.numbers.specs.Counts.{count_in, count_at}
 use Rattle.points.specs.declared.PointBytes.{PointBytes}
 use Rattle.points.specs.Reading.{by_kind, not_allowed, ends_at, lo_x, last_at, after_lo_y, after_upper, after_hi_y, point_from, point_at}
 use Rattle.table.specs.Table.{Tabled, in_table, not_in_table, kind_of, begins}
+use Rattle.parameters.specs.declared.CountedRun.{CountedRun}
 use Rattle.parameters.specs.declared.Entry.{Entry}
 use Rattle.parameters.specs.declared.Entry.TheVariants.{AnInteger, ACharacter}
-use Rattle.parameters.specs.Entries.{entry_at, as_entry, CountedRun, run_at}
+use Rattle.parameters.specs.Entries.{entry_at, as_entry, run_at}
 use Rattle.parameters.specs.Shapes.{Tailed, no_list, list_of, Part, single, real, point, Shape, shape_of}
 use Rattle.parameters.specs.Looking.{two_entries_at, part_at, fixed_at, tail_at, Parsed, parameters_at}
 use Rattle.commands.specs.Reading.{letter_here, letter_at, completed, second_at, head_at, Meaning, body_at, command_at}

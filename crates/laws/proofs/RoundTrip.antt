@@ -29,11 +29,12 @@ use Rattle.points.proofs.RoundTrip.{point-back}
 use Rattle.ranges.proofs.Entries.{within-range}
 use Rattle.table.specs.Table.{ParameterKind, Tabled, in_table, not_in_table, TableRow, table, kind_in, kind_of, begins_in, begins}
 use Rattle.table.specs.Table as K
+use Rattle.parameters.specs.declared.CountedRun.{CountedRun}
 use Rattle.parameters.specs.declared.Entry.{Entry}
 use Rattle.parameters.specs.declared.Entry.TheVariants.{AnInteger, ACharacter}
 use Rattle.parameters.specs.declared.Parameters.{Parameters}
 use Rattle.parameters.specs.declared.Parameters.TheVariants.{OneInteger, TwoIntegers, ThreeIntegers, OnePoint, TwoPoints, AReal, TwoCharacters, AString, AnArray, IntegerThenString, IntegerThenArray}
-use Rattle.parameters.specs.Entries.{entry_at, entry_values, CountedRun, run_at}
+use Rattle.parameters.specs.Entries.{entry_at, entry_values, run_at}
 use Rattle.parameters.specs.Shapes.{Tailed, no_list, list_of, Part, single, real, point, Value, number, scaled, place, shape_of, values_of, tail_of}
 use Rattle.parameters.specs.Looking.{two_entries_at, part_at, fixed_at, tail_at, Parsed, parameters_at, entry_in}
 use Rattle.commands.specs.declared.Command.{Command}

@@ -26,11 +26,13 @@ use Rattle.points.specs.Reading.{point_at}
 use Rattle.points.proofs.Shortest.{point-shown}
 use Rattle.table.specs.Table.{ParameterKind, Tabled, in_table, not_in_table, kind_of, begins}
 use Rattle.table.specs.Table as K
+use Rattle.parameters.specs.declared.TwoEntries.{TwoEntries}
+use Rattle.parameters.specs.declared.CountedRun.{CountedRun}
 use Rattle.parameters.specs.declared.Entry.{Entry}
 use Rattle.parameters.specs.declared.Entry.TheVariants.{AnInteger, ACharacter}
-use Rattle.parameters.specs.Entries.{entry_at, as_entry, entry_values, CountedRun, run_at}
+use Rattle.parameters.specs.Entries.{entry_at, as_entry, entry_values, run_at}
 use Rattle.parameters.specs.Shapes.{Tailed, no_list, list_of, Part, single, real, point, Shape, Value, number, scaled, place, shape_of, values_of, tail_of}
-use Rattle.parameters.specs.Looking.{TwoEntries, two_entries_at, Fixed, part_at, fixed_at, tail_at, Parsed, parameters_at, entry_in, parsed_entries}
+use Rattle.parameters.specs.Looking.{two_entries_at, Fixed, part_at, fixed_at, tail_at, Parsed, parameters_at, entry_in, parsed_entries}
 use Rattle.commands.specs.declared.Command.{Command}
 use Rattle.commands.specs.Reading.{letter_here, letter_at, Letters, completed, second_at, head_at, Meaning, body_at, command_at}
 use Rattle.writable.specs.Writable.{kind_for, kind_number, is_kind, is_entry, are_entries, is_value, are_values, is_tail, fits, is_command}

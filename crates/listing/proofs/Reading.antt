@@ -14,7 +14,8 @@ use Rattle.memory.specs.Memory.{inside}
 use Rattle.refusals.specs.Answers.{Answer, done, refused, all_after}
 use Rattle.refusals.proofs.Cases.{by_pick, by_then, Done, done-of, is-done, not_done}
 use Rattle.numbers.specs.Counts.{count_at}
-use Rattle.parameters.specs.Entries.{entry_at, entries_end, entry_values, CountedRun, run_at}
+use Rattle.parameters.specs.declared.CountedRun.{CountedRun}
+use Rattle.parameters.specs.Entries.{entry_at, entries_end, entry_values, run_at}
 use Rattle.parameters.specs.Shapes.{Tailed, no_list, list_of, Shape, shape_of}
 use Rattle.parameters.specs.Looking.{fixed_at, tail_at, Parsed, parameters_at, entry_in, parsed_entries}
 use Rattle.parameters.proofs.Entering.{all_read, front-is}

@@ -5,7 +5,7 @@ use mathlib.Core.Bool.{Bool, true, false, ◌&&◌}
 use mathlib.Core.List.{List, [], ◌∷◌}
 use native.Mathlib.Nat.{add-zero}
 use native.Mathlib.Omega.{arith}
-use borrow.Author.Tests.{le-leb, lt-leb, le-ltb, lt-ltb, ltb-true, ltb-false}
+use borrow.Author.Tests.{le-leb, lt-leb, ltb-true, ltb-false}
 use borrow.Author.Rules.{Fits-under}
 use mir.Syntax.{w64}
 use mir.Val.{Fits}
@@ -14,23 +14,13 @@ use lib.ListN.{length, get_or, take, drop, length-drop}
 use lib.Seq.{get_or-drop, drop-drop, take_all}
 use Rattle.refusals.specs.Answers.{every, pick}
 use Rattle.refusals.proofs.Cases.{by_pick, bool_apart}
-use Rattle.refusals.proofs.Many.{Checking, checking_none, checking_end, checking_more}
-use Rattle.macros.specs.declared.Front.{Front}
-use Rattle.macros.specs.declared.Front.TheVariants.{Here, NoEntry}
+use Rattle.macros.specs.declared.EntryAt.{EntryAt}
 use Rattle.macros.specs.declared.Gap.{Gap}
-use Rattle.macros.specs.declared.Survey.{Survey}
-use Rattle.macros.specs.declared.Survey.TheVariants.{Formed, Malformed}
+use Rattle.std.specs.Prelude.{Option, Some, None}
 use Rattle.macros.specs.Store.{Entry, Layout, three_in, three_bytes, size_of, at_most, are_body, body_in, is_store_entry, entries, below, well_formed, has_body}
 use Rattle.macros.specs.Fronts.{Bytes, LengthIs, EntryIs, FrontIs, GapIs, FormedIs, SurveyIs, gap_behind}
 use Rattle.macros.proofs.Layouts.{Lawful, three-size, three-longest, three-lawful}
 use Rattle.macros.proofs.Reading.{stands, body-long, entry_in, rest_from, rest_all, rest_none, rest_one, size-cons, size-nil, keep-yes, keep-no, keep-nil, and_no}
-
--- ---- no byte above a bound
-
-pub byte_more : (most : ℕ) (l : List ℕ) (i : ℕ) {good next : Bool} → Checking (at_most most) l i good → i < length l → next ≡ good && leb (get_or l i 0) most → Checking (at_most most) l (i + 1) next
-byte_more most l i f h e = checking_more (at_most most) l 0 i (get_or l i 0) f h refl refl e
-
-pub ruleset bounds = (checking_none, byte_more, checking_end)
 
 -- ---- a header
 
@@ -61,20 +51,20 @@ eight_bits s at h eb ec hc = record { long = omega (arith, three-at s at, eb, ec
 
 module _ (L : Layout) (s : List ℕ) (at : ℕ) where
   -- bytes for a header that are not there
-  pub no_room : {size : ℕ} → size ≡ L.size → length s - at < size → FrontIs L (has_body L) s at NoEntry
+  pub no_room : {size : ℕ} → size ≡ L.size → length s - at < size → FrontIs L (has_body L) s at None
   unfolding FrontIs has_body
   no_room e h = rw (lt-leb L.size (length (drop at s)) (omega (arith, e, length-drop at s)))
 
   module _ {k : ℕ} (body : LengthIs L (drop at s) k) where
-    pub no_body : k < 1 → FrontIs L (has_body L) s at NoEntry
+    pub no_body : k < 1 → FrontIs L (has_body L) s at None
     unfolding FrontIs has_body
     no_body h = rw (lt-leb 1 (L.length_in (drop at s)) (omega (arith, body.long))) (simp and_no)
 
-    pub cut_off : {size : ℕ} → size ≡ L.size → at + size ≤ length s → length s - at - size < k → FrontIs L (has_body L) s at NoEntry
+    pub cut_off : {size : ℕ} → size ≡ L.size → at + size ≤ length s → length s - at - size < k → FrontIs L (has_body L) s at None
     unfolding FrontIs has_body
     cut_off e g h = rw (lt-leb (L.size + L.length_in (drop at s)) (length (drop at s)) (omega (arith, e, body.long, length-drop at s))) (simp and_no)
 
-    pub a_head : {n size : ℕ} → NumberIs L (drop at s) n → size ≡ L.size → at + size ≤ length s → 1 ≤ k → k ≤ length s - at - size → FrontIs L (has_body L) s at (Here n (at + size) (at + size + k))
+    pub a_head : {n size : ℕ} → NumberIs L (drop at s) n → size ≡ L.size → at + size ≤ length s → 1 ≤ k → k ≤ length s - at - size → FrontIs L (has_body L) s at (Some (record { number = n; from = at + size; to = at + size + k }))
     unfolding FrontIs has_body
     a_head is e h₁ h₂ h₃ =
         let d = drop at s in
@@ -95,36 +85,38 @@ module _ (L : Layout) (s : List ℕ) (at : ℕ) where
           inside = omega (arith, h₃, h₁);
         }
 
+pub ruleset headers = (three-size, no_room, ninth_bit, eight_bits)
+
 pub ruleset heads = (three-size, no_body, cut_off, a_head, number-so)
 
 -- ---- what passes a test at a place
 
-module _ (L : Layout) (passes : List ℕ → Bool) (s : List ℕ) (at : ℕ) (r : Front) (is : FrontIs L passes s at r) where
-  pub entry_of : {n from to : ℕ} → r ≡ Here n from to → EntryIs L passes s at n from to
+module _ (L : Layout) (passes : List ℕ → Bool) (s : List ℕ) (at : ℕ) (r : Option EntryAt) (is : FrontIs L passes s at r) where
+  pub entry_of : {x : EntryAt} → r ≡ Some x → EntryIs L passes s at x.number x.from x.to
   unfolding FrontIs
   entry_of g = rw g at is
 
-  pub none_of : r ≡ NoEntry → passes (drop at s) ≡ false
+  pub none_of : r ≡ None → passes (drop at s) ≡ false
   unfolding FrontIs
   none_of g = rw g at is
 
-  module _ {n from to : ℕ} (g : r ≡ Here n from to) where
-    pub closer : length s - to < length s - at
+  module _ {x : EntryAt} (g : r ≡ Some x) where
+    pub closer : length s - x.to < length s - at
     closer = let y = entry_of g in omega (arith, y.begins, y.some, y.inside)
 
-    pub inside_of : to ≤ length s
+    pub inside_of : x.to ≤ length s
     inside_of = (entry_of g).inside
 
-    pub next_of : Fits w64 (n + 1)
-    next_of = Fits-under w64 (n + 1) 32769 (omega (arith, (entry_of g).small)) tt
+    pub next_of : Fits w64 (x.number + 1)
+    next_of = Fits-under w64 (x.number + 1) 32769 (omega (arith, (entry_of g).small)) tt
 
-    pub from-of : from ≤ to
+    pub from-of : x.from ≤ x.to
     from-of = omega (arith, (entry_of g).some)
 
-    pub body_of : take (to - from) (drop from s) ≡ body_in L (drop at s)
+    pub body_of : take (x.to - x.from) (drop x.from s) ≡ body_in L (drop at s)
     body_of =
         let y = entry_of g in
-        let l : to - from ≡ L.length_in (drop at s) = omega (arith, y.ends) in
+        let l : x.to - x.from ≡ L.length_in (drop at s) = omega (arith, y.ends) in
         rw (l, y.begins, drop-drop)
 
 pub ruleset passings = (closer, inside_of, next_of, from-of)
@@ -137,35 +129,35 @@ headless true true false more rest e = and_no more
 headless true false c more rest e = refl
 headless false b c more rest e = refl
 
-module _ (L : Layout) (s : List ℕ) (at least : ℕ) (r : Front) (is : FrontIs L (has_body L) s at r) where
-  pub no_head : r ≡ NoEntry → FrontIs L (is_store_entry L least) s at NoEntry
+module _ (L : Layout) (s : List ℕ) (at least : ℕ) (r : Option EntryAt) (is : FrontIs L (has_body L) s at r) where
+  pub no_head : r ≡ None → FrontIs L (is_store_entry L least) s at None
   unfolding FrontIs is_store_entry has_body
   no_head e =
       let d = drop at s in
       headless (leb L.size (length d)) (leb 1 (L.length_in d)) (leb (L.size + L.length_in d) (length d)) (leb (L.length_in d) L.longest) (L.spare_zero d && (leb least (L.number_in d) && are_body (body_in L d)))
       (none_of L (has_body L) s at r is e)
 
-  module _ {n from to : ℕ} (g : r ≡ Here n from to) where
-    head : EntryIs L (has_body L) s at n from to
+  module _ {x : EntryAt} (g : r ≡ Some x) where
+    head : EntryIs L (has_body L) s at x.number x.from x.to
     head = entry_of L (has_body L) s at r is g
 
-    pub too_long : {longest : ℕ} → longest ≡ L.longest → longest < to - from → FrontIs L (is_store_entry L least) s at NoEntry
+    pub too_long : {longest : ℕ} → longest ≡ L.longest → longest < x.to - x.from → FrontIs L (is_store_entry L least) s at None
     unfolding FrontIs is_store_entry
     too_long e h = rw (lt-leb (L.length_in (drop at s)) L.longest (omega (arith, e, h, head.ends))) (simp and_no)
 
-    pub too_low : n < least → FrontIs L (is_store_entry L least) s at NoEntry
+    pub too_low : x.number < least → FrontIs L (is_store_entry L least) s at None
     unfolding FrontIs is_store_entry
     too_low h = rw (lt-leb least (L.number_in (drop at s)) (omega (arith, h, head.here))) (simp and_no)
 
-    module _ {b : Bool} (eb : b ≡ every (at_most 127) (take (to - from) (drop from s))) where
+    module _ {b : Bool} (eb : b ≡ every (at_most 127) (take (x.to - x.from) (drop x.from s))) where
       body-there : b ≡ are_body (body_in L (drop at s))
       body-there = eb ∙ ap (every (at_most 127)) (body_of L (has_body L) s at r is g)
 
-      pub not_body : b ≡ false → FrontIs L (is_store_entry L least) s at NoEntry
+      pub not_body : b ≡ false → FrontIs L (is_store_entry L least) s at None
       unfolding FrontIs is_store_entry
       not_body t = rw (sym body-there ∙ t) (simp and_no)
 
-      pub an_entry : b ≡ true → {longest : ℕ} → longest ≡ L.longest → to - from ≤ longest → least ≤ n → FrontIs L (is_store_entry L least) s at (Here n from to)
+      pub an_entry : b ≡ true → {longest : ℕ} → longest ≡ L.longest → x.to - x.from ≤ longest → least ≤ x.number → FrontIs L (is_store_entry L least) s at (Some x)
       unfolding FrontIs is_store_entry
       an_entry t el h₁ h₂ =
           let d = drop at s in
@@ -194,35 +186,20 @@ pub ruleset fronts = (three-longest, from-of, inside_of, no_head, too_long, too_
 
 -- ---- passing entries
 
-module _ (L : Layout) (s : List ℕ) (at least : ℕ) (r : Front) (is : FrontIs L (is_store_entry L least) s at r) {n from to : ℕ} (g : r ≡ Here n from to) where
-  here : EntryIs L (is_store_entry L least) s at n from to
+module _ (L : Layout) (s : List ℕ) (at least : ℕ) (r : Option EntryAt) (is : FrontIs L (is_store_entry L least) s at r) {x : EntryAt} (g : r ≡ Some x) where
+  here : EntryIs L (is_store_entry L least) s at x.number x.from x.to
   here = entry_of L (is_store_entry L least) s at r is g
 
   -- what is left of the store from here on: this entry, and what is left behind it
-  pub rest_of : rest_from L s at least ≡ entry_in L (drop at s) ∷ rest_from L s to (n + 1)
+  pub rest_of : rest_from L s at least ≡ entry_in L (drop at s) ∷ rest_from L s x.to (x.number + 1)
   rest_of =
-      let p : at + L.size + L.length_in (drop at s) ≡ to = omega (arith, here.begins, here.ends) in
+      let p : at + L.size + L.length_in (drop at s) ≡ x.to = omega (arith, here.begins, here.ends) in
       rest_one L s at least here.is ∙ rw (p, ← here.here)
 
-  pub long_of : length (body_in L (drop at s)) ≡ to - from
+  pub long_of : length (body_in L (drop at s)) ≡ x.to - x.from
   long_of = body-long L least (drop at s) here.is ∙ omega (arith, here.ends)
 
 -- ---- where a macro stands among the entries passed
-
-module _ (g : Gap) (number n to : ℕ) where
-  pub gap-low : n < number → record { at = to; old = to; end = to } ≡ gap_behind g number n to
-  unfolding gap_behind
-  gap-low h = rw (lt-ltb n number h, lt-ltb n (number + 1) (omega (arith, h)))
-
-  pub gap-this : number ≤ n → n ≤ number → record { at = g.at; old = to; end = to } ≡ gap_behind g number n to
-  unfolding gap_behind
-  gap-this h l = rw (le-ltb n number h, lt-ltb n (number + 1) (omega (arith, l)))
-
-  pub gap-high : number < n → record { at = g.at; old = g.old; end = to } ≡ gap_behind g number n to
-  unfolding gap_behind
-  gap-high h = rw (le-ltb n number (omega (arith, h)), le-ltb n (number + 1) (omega (arith, h)))
-
-pub ruleset gaps = (gap-low, gap-this, gap-high)
 
 -- the bytes of the entries below a number are those passed, and those of what is left; all passed are below it, as long as the next may be
 pub record Passing (L : Layout) (s : List ℕ) (number least at end : ℕ) : Type 0 where
@@ -258,41 +235,41 @@ module _ (L : Layout) (s : List ℕ) (at least : ℕ) (none : rest_from L s at l
       omega (arith, e, p.left)
 
 -- one more
-module _ (L : Layout) (lawful : Lawful L) (s : List ℕ) (at least : ℕ) (r : Front) (is : FrontIs L (is_store_entry L least) s at r) {n from to : ℕ} (g : r ≡ Here n from to) where
-  passed : EntryIs L (is_store_entry L least) s at n from to
+module _ (L : Layout) (lawful : Lawful L) (s : List ℕ) (at least : ℕ) (r : Option EntryAt) (is : FrontIs L (is_store_entry L least) s at r) {en : EntryAt} (g : r ≡ Some en) where
+  passed : EntryIs L (is_store_entry L least) s at en.number en.from en.to
   passed = entry_of L (is_store_entry L least) s at r is g
 
   abbrev first : Entry
   first = entry_in L (drop at s)
 
   abbrev rest : List Entry
-  rest = rest_from L s to (n + 1)
+  rest = rest_from L s en.to (en.number + 1)
 
-  behind-it : to ≡ at + L.size + length first.body
+  behind-it : en.to ≡ at + L.size + length first.body
   behind-it = omega (arith, long_of L s at least r is g, passed.begins, passed.ends, passed.some)
 
-  passed_one : (number x : ℕ) → Passing L s number least x at → Passing L s number (n + 1) (pick (ltb n number) to x) to
+  passed_one : (number x : ℕ) → Passing L s number least x at → Passing L s number (en.number + 1) (pick (ltb en.number number) en.to x) en.to
   passed_one number x p =
-      by_pick (λ (y : ℕ). Passing L s number (n + 1) y to) (ltb n number) to x
+      by_pick (λ (y : ℕ). Passing L s number (en.number + 1) y en.to) (ltb en.number number) en.to x
       (λ t.
       let e : size_of L (below number (rest_from L s at least)) ≡ L.size + length first.body + size_of L (below number rest)
       = ap (λ (es : List Entry). size_of L (below number es)) (rest_of L s at least r is g)
       ∙ ap (size_of L) (keep-yes _ first rest (ap (λ (m : ℕ). ltb m number) (sym passed.here) ∙ t))
       ∙ size-cons L lawful first (below number rest) in
       let y = stands L least (drop at s) passed.is in
-      let h : x ≡ at = p.here (omega (arith, y.rising, passed.here, ltb-true n number t)) in
+      let h : x ≡ at = p.here (omega (arith, y.rising, passed.here, ltb-true en.number number t)) in
       record { left = omega (arith, e, p.left, behind-it, h); here = λ q. refl })
       (λ t.
       let e : size_of L (below number (rest_from L s at least)) ≡ size_of L (below number rest)
       = ap (λ (es : List Entry). size_of L (below number es)) (rest_of L s at least r is g)
       ∙ ap (size_of L) (keep-no _ first rest (ap (λ (m : ℕ). ltb m number) (sym passed.here) ∙ t)) in
-      record { left = omega (arith, e, p.left); here = λ q. absurd (omega (arith, q, ltb-false n number t)) })
+      record { left = omega (arith, e, p.left); here = λ q. absurd (omega (arith, q, ltb-false en.number number t)) })
 
   passed_size : size_of L (rest_from L s at least) ≡ L.size + length first.body + size_of L rest
   passed_size = ap (size_of L) (rest_of L s at least r is g) ∙ size-cons L lawful first rest
 
-module _ (L : Layout) (lawful : Lawful L) (s : List ℕ) (number : ℕ) (g : Gap) (least : ℕ) (inv : Surveying L s number g least) (r : Front) (is : FrontIs L (is_store_entry L least) s g.end r) where
-  pub surveyed-end : r ≡ NoEntry → Bytes s → GapIs L s number g
+module _ (L : Layout) (lawful : Lawful L) (s : List ℕ) (number : ℕ) (g : Gap) (least : ℕ) (inv : Surveying L s number g least) (r : Option EntryAt) (is : FrontIs L (is_store_entry L least) s g.end r) where
+  pub surveyed-end : r ≡ None → Bytes s → GapIs L s number g
   surveyed-end e bytes =
       let none = rest_none L s g.end least (none_of L (is_store_entry L least) s g.end r is e) in
       record {
@@ -305,29 +282,29 @@ module _ (L : Layout) (lawful : Lawful L) (s : List ℕ) (number : ℕ) (g : Gap
         bytes = bytes;
       }
 
-  module _ {n from to : ℕ} (e : r ≡ Here n from to) where
-    forth-on : (a b : Bool) → ltb n number ≡ a → ltb n (number + 1) ≡ b → g.end ≤ to → pick a to g.at ≤ pick b to g.old
+  module _ {x : EntryAt} (e : r ≡ Some x) where
+    forth-on : (a b : Bool) → ltb x.number number ≡ a → ltb x.number (number + 1) ≡ b → g.end ≤ x.to → pick a x.to g.at ≤ pick b x.to g.old
     forth-on true true ea eb h = omega arith
-    forth-on true false ea eb h = absurd (omega (arith, ltb-true n number ea, ltb-false n (number + 1) eb))
+    forth-on true false ea eb h = absurd (omega (arith, ltb-true x.number number ea, ltb-false x.number (number + 1) eb))
     forth-on false true ea eb h = omega (arith, inv.forth, inv.further, h)
     forth-on false false ea eb h = inv.forth
 
-    pub surveyed-less : {g' : Gap} → g' ≡ gap_behind g number n to → length s - g'.end < length s - g.end
+    pub surveyed-less : {g' : Gap} → g' ≡ gap_behind g number x.number x.to → length s - g'.end < length s - g.end
     unfolding gap_behind
     surveyed-less q = rw q (closer L (is_store_entry L least) s g.end r is e)
 
-    pub surveyed-on : {g' : Gap} → g' ≡ gap_behind g number n to → Surveying L s number g' (n + 1)
+    pub surveyed-on : {g' : Gap} → g' ≡ gap_behind g number x.number x.to → Surveying L s number g' (x.number + 1)
     unfolding gap_behind
     surveyed-on q =
-        let h : g.end ≤ to = omega (arith, behind-it L lawful s g.end least r is e) in
-        subst (λ (x : Gap). Surveying L s number x (n + 1)) (sym q)
+        let h : g.end ≤ x.to = omega (arith, behind-it L lawful s g.end least r is e) in
+        subst (λ (y : Gap). Surveying L s number y (x.number + 1)) (sym q)
         (record {
           inside = inside_of L (is_store_entry L least) s g.end r is e;
           low = passed_one L lawful s g.end least r is e number g.at inv.low;
           upto = passed_one L lawful s g.end least r is e (number + 1) g.old inv.upto;
           all = omega (arith, inv.all, passed_size L lawful s g.end least r is e, behind-it L lawful s g.end least r is e);
-          forth = forth-on (ltb n number) (ltb n (number + 1)) refl refl h;
-          further = by_pick (λ (y : ℕ). y ≤ to) (ltb n (number + 1)) to g.old (λ t. omega arith) (λ t. omega (arith, inv.further, h));
+          forth = forth-on (ltb x.number number) (ltb x.number (number + 1)) refl refl h;
+          further = by_pick (λ (y : ℕ). y ≤ x.to) (ltb x.number (number + 1)) x.to g.old (λ t. omega arith) (λ t. omega (arith, inv.further, h));
         })
 
 pub ruleset surveyings = (three-lawful, surveying, surveyed-less, surveyed-on)
@@ -339,27 +316,29 @@ module _ (L : Layout) (s : List ℕ) (number : ℕ) {g : Gap} (gap : GapIs L s n
   unfolding well_formed
   zeros_behind = eb ∙ ap (every (at_most 0)) (take_all (length s - g.end) (drop g.end s) (omega (arith, length-drop g.end s))) ∙ ap (λ (k : ℕ). every (at_most 0) (drop k s)) gap.end
 
-  pub is-formed : b ≡ true → SurveyIs L s number (Formed g)
+  pub is-formed : b ≡ true → SurveyIs L s number (Some g)
   unfolding SurveyIs
   is-formed t = record { formed = sym zeros_behind ∙ t; gap = gap }
 
-  pub is-malformed : b ≡ false → SurveyIs L s number Malformed
+  pub is-malformed : b ≡ false → SurveyIs L s number None
   unfolding SurveyIs
   is-malformed t = sym zeros_behind ∙ t
 
 pub ruleset surveys = (is-formed, is-malformed)
 
-module _ (L : Layout) (s : List ℕ) (number : ℕ) {r : Survey} (is : SurveyIs L s number r) where
-  pub formed-of : {g : Gap} → r ≡ Formed g → FormedIs L s number g
+module _ (L : Layout) (s : List ℕ) (number : ℕ) {r : Option Gap} (is : SurveyIs L s number r) where
+  pub formed-of : {g : Gap} → r ≡ Some g → FormedIs L s number g
   unfolding SurveyIs
   formed-of e = rw e at is
 
-  pub malformed_of : r ≡ Malformed → well_formed L s ≡ false
+  pub malformed_of : r ≡ None → well_formed L s ≡ false
   unfolding SurveyIs
   malformed_of e = rw e at is
 
-  pub says_formed : {g : Gap} → r ≡ Formed g → true ≡ well_formed L s
+  pub says_formed : {g : Gap} → r ≡ Some g → true ≡ well_formed L s
   says_formed e = sym (formed-of e).formed
 
-  pub says_malformed : r ≡ Malformed → false ≡ well_formed L s
+  pub says_malformed : r ≡ None → false ≡ well_formed L s
   says_malformed e = sym (malformed_of e)
+
+pub ruleset saids = (says_formed, says_malformed)

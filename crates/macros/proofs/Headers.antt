@@ -1,11 +1,11 @@
 -- Looking up by the headers alone, and that it gives what looking up gives where both stores are well formed.
 use Prim.Native.Nat.{ℕ, zero, suc, ◌+◌, ◌-◌, ◌≤◌, ◌<◌, min}
 use mathlib.Core.Path.{◌≡◌, refl, sym, ◌∙◌, ap, subst}
-use mathlib.Core.Bool.{Bool, true, false, not, ◌&&◌}
+use mathlib.Core.Bool.{Bool, true, false, ◌&&◌}
 use mathlib.Core.List.{List, [], ◌∷◌}
 use native.Mathlib.Nat.{zero-add}
 use native.Mathlib.Omega.{arith}
-use borrow.Author.Tests.{le-leb, lt-leb, le-ltb, lt-ltb, eq-eqb, ne_eqb, leb-true, leb-false, eqb-true, eqb-false, not-true, not-false}
+use borrow.Author.Tests.{le-leb, lt-leb, le-ltb, lt-ltb, eq-eqb, ne_eqb, leb-true, leb-false, eqb-true, eqb-false}
 use lib.Arith.{lt_of_le-ne}
 use lib.Dec.{leb, eqb}
 use lib.ListN.{length, take, drop, length-take, length-drop}
@@ -20,8 +20,8 @@ use Rattle.refusals.proofs.Cases.{and_left, and_right, by_pick, bool_apart}
 use Rattle.refusals.proofs.Numbers.{met}
 use Rattle.ranges.specs.Ranges.{within}
 use Rattle.macros.specs.declared.Part.{Part}
-use Rattle.macros.specs.declared.Front.{Front}
-use Rattle.macros.specs.declared.Front.TheVariants.{Here, NoEntry}
+use Rattle.macros.specs.declared.EntryAt.{EntryAt}
+use Rattle.std.specs.Prelude.{Option, Some, None}
 use Rattle.macros.specs.Store.{Entry, Layout, size_of, are_zeros, body_in, is_store_entry, front_entries, entries, well_formed, below, is_macro_number, body_of, or_else, body_in_either, look_refusal, find_refusal, looked_up, Placed, placed_in, placed, bytes_placed, body_pointer, placed_at, has_body, nowhere, part_by_headers, part_in, placed_by_headers, looked_by_headers}
 use Rattle.macros.specs.Fronts.{EntryIs, FrontIs, HandsPart}
 use Rattle.macros.proofs.Layouts.{Lawful}
@@ -115,43 +115,43 @@ pub record Hopping (L : Layout) (s : List ℕ) (number at : ℕ) : Type 0 where
 pub hopping : (L : Layout) (s : List ℕ) (number : ℕ) → Hopping L s number 0
 hopping L s number = record { inside = omega arith; left = refl }
 
-module _ (L : Layout) (s : List ℕ) (number at : ℕ) (inv : Hopping L s number at) (r : Front) (is : FrontIs L (has_body L) s at r) where
-  pub hopped_end : r ≡ NoEntry → part_in L number s ≡ nowhere
+module _ (L : Layout) (s : List ℕ) (number at : ℕ) (inv : Hopping L s number at) (r : Option EntryAt) (is : FrontIs L (has_body L) s at r) where
+  pub hopped_end : r ≡ None → part_in L number s ≡ nowhere
   hopped_end g = sym inv.left ∙ no_head L number (length s) at (drop at s) (none_of L (has_body L) s at r is g)
 
-  module _ {n from to : ℕ} (g : r ≡ Here n from to) where
-    headed : EntryIs L (has_body L) s at n from to
+  module _ {x : EntryAt} (g : r ≡ Some x) where
+    headed : EntryIs L (has_body L) s at x.number x.from x.to
     headed = entry_of L (has_body L) s at r is g
 
     fuel : part_by_headers L (length s) number at (drop at s) ≡ part_by_headers L (suc (length s - 1)) number at (drop at s)
     fuel = let y = headed in let k : length s ≡ suc (length s - 1) = omega (arith, y.some, y.inside) in ap (λ (j : ℕ). part_by_headers L j number at (drop at s)) k
 
-    hopped_here : n ≡ number → part_in L number s ≡ record { offset = from; long = to - from }
+    hopped_here : x.number ≡ number → part_in L number s ≡ record { offset = x.from; long = x.to - x.from }
     hopped_here e =
         let y = headed in
-        let long : L.length_in (drop at s) ≡ to - from = omega (arith, y.ends) in
+        let long : L.length_in (drop at s) ≡ x.to - x.from = omega (arith, y.ends) in
         sym inv.left ∙ fuel ∙ head_this L number (length s - 1) at (drop at s) y.is (sym y.here ∙ e) ∙ rw (← y.begins, long)
 
-    pub here-handed : n ≡ number → (store part : Bor (List ℕ)) → s ≡ store.now → part.now ≡ take (to - from) (drop from s) → part.ref_ptr ≡ (store.ref_ptr.0, from + store.ref_ptr.1) → HandsPart store (part_in L number s) part
+    pub here-handed : x.number ≡ number → (store part : Bor (List ℕ)) → s ≡ store.now → part.now ≡ take (x.to - x.from) (drop x.from s) → part.ref_ptr ≡ (store.ref_ptr.0, x.from + store.ref_ptr.1) → HandsPart store (part_in L number s) part
     here-handed e store part q b p =
-        rw (hopped_here e) (record { bytes = b ∙ ap (λ (l : List ℕ). take (to - from) (drop from l)) q; block = ap (λ (x : ℕ × ℕ). x.0) p; place = ap (λ (x : ℕ × ℕ). x.1) p })
+        rw (hopped_here e) (record { bytes = b ∙ ap (λ (l : List ℕ). take (x.to - x.from) (drop x.from l)) q; block = ap (λ (k : ℕ × ℕ). k.0) p; place = ap (λ (k : ℕ × ℕ). k.1) p })
 
-    pub hopped_past : number ≤ n → (n ≡ number → ⊥) → part_in L number s ≡ nowhere
+    pub hopped_past : number ≤ x.number → (x.number ≡ number → ⊥) → part_in L number s ≡ nowhere
     hopped_past h d =
-        let high : number < n = lt_of_le-ne h (λ e. d (sym e)) in
+        let high : number < x.number = lt_of_le-ne h (λ e. d (sym e)) in
         sym inv.left ∙ head_high L number (length s) at (drop at s) (omega (arith, high, headed.here))
 
-    pub hopped_on : n < number → Hopping L s number to
+    pub hopped_on : x.number < number → Hopping L s number x.to
     hopped_on low =
         let y = headed in
-        let p : at + (L.size + L.length_in (drop at s)) ≡ to = omega (arith, y.begins, y.ends) in
-        let l = length-drop to s in
-        let next : behind L (drop at s) ≡ drop to s = drop-drop (L.size + L.length_in (drop at s)) at s ∙ ap (λ (i : ℕ). drop i s) p in
+        let p : at + (L.size + L.length_in (drop at s)) ≡ x.to = omega (arith, y.begins, y.ends) in
+        let l = length-drop x.to s in
+        let next : behind L (drop at s) ≡ drop x.to s = drop-drop (L.size + L.length_in (drop at s)) at s ∙ ap (λ (i : ℕ). drop i s) p in
         record {
           inside = y.inside;
           left =
-              enough_heads L number (length s) (length s - 1) to (drop to s) (omega (arith, l)) (omega (arith, l, y.some, y.inside))
-              ∙ ap (part_by_headers L (length s - 1) number to) (sym next)
+              enough_heads L number (length s) (length s - 1) x.to (drop x.to s) (omega (arith, l)) (omega (arith, l, y.some, y.inside))
+              ∙ ap (part_by_headers L (length s - 1) number x.to) (sym next)
               ∙ ap (λ (i : ℕ). part_by_headers L (length s - 1) number i (behind L (drop at s))) (sym p)
               ∙ sym (fuel ∙ head_on L number (length s - 1) at (drop at s) y.is (omega (arith, low, y.here)))
               ∙ inv.left;
@@ -193,15 +193,15 @@ module _ (L : Layout) (v s : List ℕ) (n : ℤ) (f : SFits w32 n) {w : Bool} (e
   inside_is : {t : Bool} → w ≡ t → is_macro_number n ≡ t
   inside_is e = sym (rw (to_z-of_z f) at ew) ∙ e
 
-  module _ (t : not w ≡ true) where
+  module _ (t : w ≡ false) where
     pub no_number : [] ≡ looked_by_headers L v s n
-    no_number = bytes-there L v s n (headers_outside L v s n (inside_is (not-true w t)))
+    no_number = bytes-there L v s n (headers_outside L v s n (inside_is t))
 
     pub no_pointer : (pv ps : ℕ × ℕ) → ps ≡ body_pointer (placed_by_headers L v s n) pv ps
     unfolding body_pointer
-    no_pointer pv ps = ap (λ (k : ℕ). (ps.0, k)) (sym (zero-add ps.1)) ∙ pointer_there L v s n (headers_outside L v s n (inside_is (not-true w t))) pv ps
+    no_pointer pv ps = ap (λ (k : ℕ). (ps.0, k)) (sym (zero-add ps.1)) ∙ pointer_there L v s n (headers_outside L v s n (inside_is t)) pv ps
 
-  module _ (t : not w ≡ false) {k : ℕ} (ek : k ≡ nat_abs (to_z w32 (of_z w32 n))) {b : List ℕ} (eb : b ≡ take (part_in L k v).long (drop (part_in L k v).offset v)) where
+  module _ (t : w ≡ true) {k : ℕ} (ek : k ≡ nat_abs (to_z w32 (of_z w32 n))) {b : List ℕ} (eb : b ≡ take (part_in L k v).long (drop (part_in L k v).offset v)) where
     number_is : nat_abs n ≡ k
     number_is = sym (rw (to_z-of_z f) at ek)
 
@@ -215,7 +215,7 @@ module _ (L : Layout) (v s : List ℕ) (n : ℤ) (f : SFits w32 n) {w : Bool} (e
       in_volatile : placed_by_headers L v s n ≡ placed_at 1 p
       in_volatile =
           let u : leb 1 p.long ≡ true = le-leb 1 p.long (omega (arith, h, b_long)) in
-          headers_volatile L v s n (inside_is (not-false w t)) (rw number_is u) ∙ rw number_is
+          headers_volatile L v s n (inside_is t) (rw number_is u) ∙ rw number_is
 
       pub by_volatile : b ≡ looked_by_headers L v s n
       by_volatile = eb ∙ bytes-there L v s n in_volatile
@@ -229,7 +229,7 @@ module _ (L : Layout) (v s : List ℕ) (n : ℤ) (f : SFits w32 n) {w : Bool} (e
       in_saved =
           let z = part-within L k (length v) 0 v in
           let u : leb 1 p.long ≡ false = lt-leb 1 p.long (omega (arith, h, b_long, z)) in
-          headers_saved L v s n (inside_is (not-false w t)) (rw number_is u) ∙ rw number_is
+          headers_saved L v s n (inside_is t) (rw number_is u) ∙ rw number_is
 
       pub by_saved : {c : List ℕ} → c ≡ take (part_in L k s).long (drop (part_in L k s).offset s) → c ≡ looked_by_headers L v s n
       by_saved e = e ∙ bytes-there L v s n in_saved

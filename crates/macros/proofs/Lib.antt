@@ -4,6 +4,6 @@ pub mod Fronts
 pub mod Listing
 pub mod Locations
 pub mod Lookups
-pub mod Stores
+pub mod StoreLaws
 pub mod Headers
 pub mod Coinciding

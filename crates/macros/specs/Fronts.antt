@@ -1,13 +1,10 @@
 -- What the functions behind the calls say of a header and of an entry at a place of a store.
-use Rattle.std.specs.Prelude.{ℕ, ◌+◌, ◌≤◌, ◌<◌, ◌≡◌, Bool, true, false, List, ltb, length, get_or, take, drop}
+use Rattle.std.specs.Prelude.{ℕ, ◌+◌, ◌-◌, ◌≤◌, ◌<◌, ◌≡◌, Bool, true, false, List, ltb, length, get_or, take, drop, Option, Some, None}
 use Rattle.std.specs.Borrow.{Bor}
 use Rattle.refusals.specs.Answers.{pick}
-use Rattle.macros.specs.declared.Front.{Front}
-use Rattle.macros.specs.declared.Front.TheVariants.{Here, NoEntry}
+use Rattle.macros.specs.declared.EntryAt.{EntryAt}
 use Rattle.macros.specs.declared.Part.{Part}
 use Rattle.macros.specs.declared.Gap.{Gap}
-use Rattle.macros.specs.declared.Survey.{Survey}
-use Rattle.macros.specs.declared.Survey.TheVariants.{Formed, Malformed}
 use Rattle.macros.specs.Store.{Layout, size_of, entries, well_formed, below}
 
 -- every element is a byte, as those of a slice of u8 are
@@ -29,9 +26,9 @@ pub record EntryIs (L : Layout) (passes : List ℕ → Bool) (s : List ℕ) (at 
   pub small : number ≤ 32767
   pub inside : to ≤ length s
 
-unfoldable pub FrontIs : Layout → (passes : List ℕ → Bool) → List ℕ → ℕ → Front → Type 0
-FrontIs L passes s at (Here number from to) = EntryIs L passes s at number from to
-FrontIs L passes s at NoEntry = passes (drop at s) ≡ false
+unfoldable pub FrontIs : Layout → (passes : List ℕ → Bool) → List ℕ → ℕ → Option EntryAt → Type 0
+FrontIs L passes s at (Some e) = EntryIs L passes s at e.number e.from e.to
+FrontIs L passes s at None = passes (drop at s) ≡ false
 
 -- ---- one pass over a store
 
@@ -53,9 +50,13 @@ pub record FormedIs (L : Layout) (s : List ℕ) (number : ℕ) (g : Gap) : Type 
   pub formed : well_formed L s ≡ true
   pub gap : GapIs L s number g
 
-unfoldable pub SurveyIs : Layout → List ℕ → (number : ℕ) → Survey → Type 0
-SurveyIs L s number (Formed g) = FormedIs L s number g
-SurveyIs L s number Malformed = well_formed L s ≡ false
+unfoldable pub SurveyIs : Layout → List ℕ → (number : ℕ) → Option Gap → Type 0
+SurveyIs L s number (Some g) = FormedIs L s number g
+SurveyIs L s number None = well_formed L s ≡ false
+
+-- the body between where a macro's entry begins and where it ends, if it has one
+unfoldable pub body_between : Layout → Gap → Option Part
+body_between L g = pick (ltb g.at g.old) (Some (record { offset = g.at + L.size; long = g.old - (g.at + L.size) })) None
 
 -- ---- a part of a store, handed back
 

@@ -1,9 +1,9 @@
 -- "Macros": a store as a list of entries and as bytes, and what looking up makes of it.
-use Rattle.std.specs.Prelude.{ℕ, zero, suc, ◌+◌, ◌-◌, ◌*◌, ◌/◌, ◌%◌, ◌≤◌, ◌≡◌, Bool, true, ◌&&◌, List, [], ◌∷◌, ◌++◌, length, get_or, take, drop, replicate, leb, ltb, eqb, ℤ, nat_abs}
+use Rattle.std.specs.Prelude.{ℕ, zero, suc, ◌+◌, ◌-◌, ◌*◌, ◌/◌, ◌%◌, ◌≤◌, ◌≡◌, Bool, true, ◌&&◌, List, [], ◌∷◌, ◌++◌, length, get_or, take, drop, replicate, leb, ltb, eqb, ℤ, nat_abs, Result, Ok, Err}
 use Rattle.refusals.specs.Refusals.{number_of}
 use Rattle.refusals.specs.Answers.{pick, demand, every}
 use Rattle.ranges.specs.Ranges.{within}
-use Rattle.macros.specs.declared.Finding.{Finding}
+use Rattle.refusals.specs.declared.Refusal.{Refusal}
 use Rattle.macros.specs.declared.Part.{Part}
 use Rattle.macros.specs.declared.Place.{Place}
 
@@ -152,11 +152,6 @@ find_refusal L volatile saved n = look_refusal L volatile saved n (demand (leb 1
 unfoldable pub looked_up : Layout → (volatile saved : List ℕ) → ℤ → List ℕ
 looked_up L volatile saved n = pick (eqb (find_refusal L volatile saved n) 0) (body_in_either L volatile saved (nat_abs n)) []
 
--- what the companion answer says: 0 or the refusal's number
-unfoldable pub finding_of : Finding → ℕ
-finding_of Finding.Found = 0
-finding_of (Finding.Refused e) = number_of e
-
 -- ---- where the body stands
 
 -- 0 or the refusal's number; the store, 1 for the volatile one and 2 for the saved one; where the body begins in it, and its length
@@ -198,10 +193,10 @@ body_pointer p volatile saved = ((store_named p volatile saved).0, p.offset + (s
 abbrev pub placed_at : (store : ℕ) → Part → Placed
 placed_at store p = record { number = 0; store = store; offset = p.offset; long = p.long }
 
-unfoldable pub body_place_of : Place → Placed
-body_place_of (Place.InVolatile part) = placed_at 1 part
-body_place_of (Place.InSaved part) = placed_at 2 part
-body_place_of (Place.Refused e) = unplaced (number_of e)
+unfoldable pub body_place_of : Result Place Refusal → Placed
+body_place_of (Ok (Place.InVolatile part)) = placed_at 1 part
+body_place_of (Ok (Place.InSaved part)) = placed_at 2 part
+body_place_of (Err e) = unplaced (number_of e)
 
 -- ---- looking up by the headers alone
 

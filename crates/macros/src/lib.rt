@@ -3,9 +3,9 @@
 #![tactic(auto)]
 
 ghost use Rattle.std.specs.Prelude.{◌≡◌, ◌+◌, ◌<◌, ◌≤◌, length, get_or, drop};
-ghost use Rattle.refusals.specs.Answers.{every};
-ghost use Rattle.macros.specs.Store.{three_bytes, at_most, is_store_entry, well_formed, looked_up, find_refusal, finding_of, placed, body_pointer, body_place_of, has_body, part_in, placed_by_headers, looked_by_headers};
-ghost use Rattle.macros.specs.Fronts.{LengthIs, FrontIs, GapIs, SurveyIs, HandsPart, gap_behind};
+ghost use Rattle.refusals.specs.Answers.{every, refusal_of};
+ghost use Rattle.macros.specs.Store.{three_bytes, at_most, is_store_entry, well_formed, looked_up, find_refusal, placed, body_pointer, body_place_of, has_body, part_in, placed_by_headers, looked_by_headers};
+ghost use Rattle.macros.specs.Fronts.{LengthIs, FrontIs, GapIs, SurveyIs, HandsPart, gap_behind, body_between};
 
 use refusals::Refusal;
 
@@ -15,37 +15,37 @@ pub const HEADER: usize = 3;
 // The longest body.
 pub const LONGEST: usize = 256;
 
+// The volatile store and the saved one, as they are lent.
 #[derive(Clone, Copy)]
-pub enum Finding {
-    Found,
-    Refused(Refusal),
+pub struct Stores<'a> {
+    pub volatile: &'a [u8],
+    pub saved: &'a [u8],
 }
 
 // A body as part of a store: where it begins in it, and its length.
-#[derive(Clone, Copy)]
+#[derive(Clone, Copy, PartialEq, Eq)]
 pub struct Part {
     pub offset: usize,
     pub long: usize,
 }
 
 // Where look up finds a body.
-#[derive(Clone, Copy)]
+#[derive(Clone, Copy, PartialEq, Eq)]
 pub enum Place {
     InVolatile(Part),
     InSaved(Part),
-    Refused(Refusal),
 }
 
-// What stands at a place of a store.
+// What stands at a place of a store: a number, and where its body begins and ends.
 #[derive(Clone, Copy)]
-enum Front {
-    // a number, and where its body begins and ends
-    Here(usize, usize, usize),
-    NoEntry,
+struct EntryAt {
+    number: usize,
+    from: usize,
+    to: usize,
 }
 
 // Where a macro stands in a store.
-#[derive(Clone, Copy)]
+#[derive(Clone, Copy, PartialEq, Eq)]
 pub struct Gap {
     // where its entry begins, or would begin
     pub at: usize,
@@ -55,25 +55,17 @@ pub struct Gap {
     pub end: usize,
 }
 
-// What one pass over a store finds.
-#[derive(Clone, Copy)]
-pub enum Survey {
-    // it is well formed; where the macro stands
-    Formed(Gap),
-    Malformed,
-}
-
 // ---- reading a store
 
 // No byte of the part is above `most`.
+#[tactic(auto, using(refusals::proofs::Many::checkings))]
 fn none_above(part: &[u8], most: u8) -> bool
     ensures { result ≡ every (at_most most) part.now }
 {
-    let mut i = 0;
+    // with no way out of the middle several bytes are tested at once
     let mut good = true;
-    while i < part.len() {
-        good = refusals::both(good, part[i] <= most);
-        i += 1;
+    for b in part {
+        good = good & (*b <= most);
     }
     good
 }
@@ -83,93 +75,85 @@ fn byte_at(store: &[u8], at: usize) -> usize
     requires { at < length store.now }
     ensures { (result ≡ get_or store.now at 0) × (result ≤ 255) }
 {
-    store[at] as usize
+    usize::from(store[at])
 }
 
 // The header at a place whose body has `long` bytes, if that is some and has room. "15 bits of number" come first.
-fn with_body(store: &[u8], at: usize, long: usize) -> Front
+#[tactic(auto, using(crate::proofs::Fronts::heads))]
+fn with_body(store: &[u8], at: usize, long: usize) -> Option<EntryAt>
     requires { (at + 3 ≤ length store.now) × LengthIs three_bytes (drop at store.now) long }
     ensures { FrontIs three_bytes (has_body three_bytes) store.now at result }
 {
-    let room = store.len() - at;
-    if long < 1 {
-        return Front::NoEntry;
-    }
-    if room - HEADER < long {
-        return Front::NoEntry;
-    }
-    let number = byte_at(store, at) * 128 + byte_at(store, at + 1) / 2;
     let from = at + HEADER;
-    let to = from + long;
-    Front::Here(number, from, to)
+    if long < 1 || store.len() - from < long {
+        return None;
+    }
+    Some(EntryAt {
+        number: byte_at(store, at) * 128 + byte_at(store, at + 1) / 2,
+        from,
+        to: from + long,
+    })
 }
 
 // A header at a place, with room for its body: "9 bits of body length" come last. In a well-formed store the first of them is set for a body of
 // 256 bytes alone: behind a branch, the place of the next header does not wait for it.
-fn headed_at(store: &[u8], at: usize) -> Front
+#[tactic(auto, using(crate::proofs::Fronts::headers))]
+fn headed_at(store: &[u8], at: usize) -> Option<EntryAt>
     requires { at ≤ length store.now }
     ensures { FrontIs three_bytes (has_body three_bytes) store.now at result }
 {
     if store.len() - at < HEADER {
-        return Front::NoEntry;
+        return None;
     }
     let middle = byte_at(store, at + 1);
     let last = byte_at(store, at + 2);
     if middle % 2 > 0 {
-        let long = 256 + last;
-        return with_body(store, at, long);
+        return with_body(store, at, 256 + last);
     }
     with_body(store, at, last)
 }
 
 // The entry at a place, if it may stand there with `least` the least number that it may have.
-fn entry_at(store: &[u8], at: usize, least: usize) -> Front
+#[tactic(auto, using(crate::proofs::Fronts::fronts))]
+fn entry_at(store: &[u8], at: usize, least: usize) -> Option<EntryAt>
     requires { at ≤ length store.now }
     ensures { FrontIs three_bytes (is_store_entry three_bytes least) store.now at result }
 {
-    let Front::Here(number, from, to) = headed_at(store, at) else {
-        return Front::NoEntry;
-    };
-    if to - from > LONGEST {
-        return Front::NoEntry;
+    let entry = headed_at(store, at)?;
+    if entry.to - entry.from > LONGEST || entry.number < least {
+        return None;
     }
-    if number < least {
-        return Front::NoEntry;
+    if none_above(&store[entry.from..entry.to], 127) {
+        Some(entry)
+    } else {
+        None
     }
-    if none_above(&store[from..to], 127) {
-        return Front::Here(number, from, to);
-    }
-    Front::NoEntry
 }
 
 // Where a macro stands among the entries passed, and one more: that of n, which ends at `to`.
+#[tactic(auto, using(refusals::proofs::Rules::tests), unfolding(crate::specs::Fronts::gap_behind))]
 fn gap_behind(gap: Gap, number: usize, n: usize, to: usize) -> Gap
     ensures { result ≡ gap_behind gap number n to }
 {
     if n < number {
-        return Gap {
+        Gap {
             at: to,
             old: to,
             end: to,
-        };
-    }
-    let at = gap.at;
-    if n <= number {
-        return Gap {
-            at: at,
+        }
+    } else if n == number {
+        Gap {
             old: to,
             end: to,
-        };
-    }
-    let old = gap.old;
-    Gap {
-        at: at,
-        old: old,
-        end: to,
+            ..gap
+        }
+    } else {
+        Gap { end: to, ..gap }
     }
 }
 
 // Where a macro stands, in one pass over the entries.
+#[tactic(auto, using(crate::proofs::Fronts::passings, crate::proofs::Fronts::surveyings))]
 fn gap_for(store: &[u8], number: usize) -> Gap
     ensures { GapIs three_bytes store.now number result }
 {
@@ -179,144 +163,136 @@ fn gap_for(store: &[u8], number: usize) -> Gap
         end: 0,
     };
     let mut least = 0;
-    loop {
-        let end = gap.end;
-        match entry_at(store, end, least) {
-            Front::Here(n, _, to) => {
-                gap = gap_behind(gap, number, n, to);
-                least = n + 1;
-            }
-            Front::NoEntry => {
-                return gap;
-            }
-        }
+    while let Some(entry) = entry_at(store, gap.end, least) {
+        gap = gap_behind(gap, number, entry.number, entry.to);
+        least = entry.number + 1;
     }
+    gap
 }
 
-// Whether a store is well formed, which is entries and then all zeros, and where a macro stands in it; a store of length 0 is well formed.
-pub fn inspect(store: &[u8], number: usize) -> Survey
+// Where a macro stands in a store that is well formed, which is entries and then all zeros; none where it is malformed. A store of length 0 is
+// well formed.
+#[tactic(auto, using(crate::proofs::Fronts::surveys))]
+pub fn inspect(store: &[u8], number: usize) -> Option<Gap>
     ensures { SurveyIs three_bytes store.now number result }
 {
     let gap = gap_for(store, number);
-    let end = gap.end;
-    if none_above(&store[end..], 0) {
-        return Survey::Formed(gap);
+    if none_above(&store[gap.end..], 0) {
+        Some(gap)
+    } else {
+        None
     }
-    Survey::Malformed
 }
 
+#[tactic(auto, using(crate::proofs::Fronts::saids))]
 pub fn is_well_formed(store: &[u8]) -> bool
     ensures { result ≡ well_formed three_bytes store.now }
 {
-    match inspect(store, 0) {
-        Survey::Formed(_) => true,
-        Survey::Malformed => false,
-    }
+    inspect(store, 0).is_some()
 }
 
 // ---- looking up
 
-// Where the body stands, in the volatile store if it is there, otherwise in the saved store: 12, 8 and 14, in that order.
-pub fn locate<'a>(volatile: &'a [u8], saved: &'a [u8], number: i32) -> Place
-    ensures { body_place_of result ≡ placed three_bytes volatile.now saved.now number }
+// The body between where a macro's entry begins and where it ends, if it has one.
+#[tactic(auto, using(refusals::proofs::Rules::tests), unfolding(crate::specs::Fronts::body_between, crate::specs::Store::three_bytes))]
+fn body_between(gap: Gap) -> Option<Part>
+    requires { gap.at < gap.old → gap.at + 3 ≤ gap.old }
+    ensures { result ≡ body_between three_bytes gap }
 {
-    let n = signs::magnitude(number) as usize;
-    let Survey::Formed(first) = inspect(volatile, n) else {
-        return Place::Refused(Refusal::StoreMalformed);
-    };
-    let Survey::Formed(second) = inspect(saved, n) else {
-        return Place::Refused(Refusal::StoreMalformed);
-    };
-    if !ranges::is_within(0, 32767, number) {
-        return Place::Refused(Refusal::NotValid);
-    }
-    if first.at < first.old {
-        let from = first.at + HEADER;
-        let long = first.old - from;
-        return Place::InVolatile(Part {
-            offset: from,
-            long: long,
-        });
-    }
-    if second.at < second.old {
-        let from = second.at + HEADER;
-        let long = second.old - from;
-        return Place::InSaved(Part {
-            offset: from,
-            long: long,
-        });
-    }
-    Place::Refused(Refusal::NoSuchMacro)
-}
-
-// The body as part of whichever store holds it; an empty part where there is none.
-pub fn look_up<'a>(volatile: &'a [u8], saved: &'a [u8], number: i32) -> &'a [u8]
-    ensures result_value { result.now ≡ looked_up three_bytes volatile.now saved.now number }
-    ensures ref_ptr_value { result.ref_ptr ≡ body_pointer (placed three_bytes volatile.now saved.now number) volatile.entry.ref_ptr saved.entry.ref_ptr }
-{
-    match locate(volatile, saved, number) {
-        Place::InVolatile(part) => {
-            let from = part.offset;
-            let to = from + part.long;
-            &volatile[from..to]
-        }
-        Place::InSaved(part) => {
-            let from = part.offset;
-            let to = from + part.long;
-            &saved[from..to]
-        }
-        Place::Refused(_) => &saved[..0],
+    if gap.at < gap.old {
+        let offset = gap.at + HEADER;
+        Some(Part {
+            offset,
+            long: gap.old - offset,
+        })
+    } else {
+        None
     }
 }
 
-// Whether look up finds a body: 12, 8 and 14, in that order.
-pub fn found<'a>(volatile: &'a [u8], saved: &'a [u8], number: i32) -> Finding
-    ensures { finding_of result ≡ find_refusal three_bytes volatile.now saved.now number }
+// The bytes of a part.
+fn part_of<'a>(store: &'a [u8], part: Part) -> &'a [u8]
+    requires { part.offset + part.long ≤ length store.now }
+    ensures { HandsPart store.entry part result }
 {
-    match locate(volatile, saved, number) {
-        Place::InVolatile(_) => Finding::Found,
-        Place::InSaved(_) => Finding::Found,
-        Place::Refused(refusal) => Finding::Refused(refusal),
+    let to = part.offset + part.long;
+    &store[part.offset..to]
+}
+
+impl<'a> Stores<'a> {
+    // Where the body stands, in the volatile store if it is there, otherwise in the saved store: 12, 8 and 14, in that order.
+    #[tactic(auto, using(crate::proofs::Lookups::locatings))]
+    pub fn locate(self, number: i32) -> Result<Place, Refusal>
+        ensures { body_place_of result ≡ placed three_bytes self.entry.volatile.now self.entry.saved.now number }
+    {
+        let n = signs::magnitude(number) as usize;
+        let first = inspect(self.volatile, n).ok_or(Refusal::StoreMalformed)?;
+        let second = inspect(self.saved, n).ok_or(Refusal::StoreMalformed)?;
+        if !ranges::is_within(0, 32767, number) {
+            return Err(Refusal::NotValid);
+        }
+        if let Some(part) = body_between(first) {
+            return Ok(Place::InVolatile(part));
+        }
+        let part = body_between(second).ok_or(Refusal::NoSuchMacro)?;
+        Ok(Place::InSaved(part))
+    }
+
+    // The body as part of whichever store holds it; an empty part where there is none.
+    pub fn look_up(self, number: i32) -> &'a [u8]
+        ensures result_value { result.now ≡ looked_up three_bytes self.entry.volatile.now self.entry.saved.now number }
+        ensures ref_ptr_value { result.ref_ptr ≡ body_pointer (placed three_bytes self.entry.volatile.now self.entry.saved.now number) self.entry.volatile.ref_ptr self.entry.saved.ref_ptr }
+    {
+        match self.locate(number) {
+            Ok(Place::InVolatile(part)) => part_of(self.volatile, part),
+            Ok(Place::InSaved(part)) => part_of(self.saved, part),
+            Err(_) => &self.saved[..0],
+        }
+    }
+
+    // Whether look up finds a body: 12, 8 and 14, in that order.
+    #[tactic(auto, using(crate::proofs::Lookups::findings))]
+    pub fn found(self, number: i32) -> Result<(), Refusal>
+        ensures { refusal_of result ≡ find_refusal three_bytes self.entry.volatile.now self.entry.saved.now number }
+    {
+        self.locate(number)?;
+        Ok(())
+    }
+
+    // What look up gives where both stores are known to be well formed: no byte of a body is looked at.
+    #[tactic(auto, using(crate::proofs::Headers::hops))]
+    pub fn look_by_headers(self, number: i32) -> &'a [u8]
+        ensures result_value { result.now ≡ looked_by_headers three_bytes self.entry.volatile.now self.entry.saved.now number }
+        ensures ref_ptr_value { result.ref_ptr ≡ body_pointer (placed_by_headers three_bytes self.entry.volatile.now self.entry.saved.now number) self.entry.volatile.ref_ptr self.entry.saved.ref_ptr }
+    {
+        if !ranges::is_within(0, 32767, number) {
+            return &self.saved[..0];
+        }
+        let n = signs::magnitude(number) as usize;
+        let body = body_by_headers(self.volatile, n);
+        if body.len() > 0 {
+            return body;
+        }
+        body_by_headers(self.saved, n)
     }
 }
 
 // ---- looking up by the headers alone
 
 // The body of a macro in one store, from header to header, or an empty part.
+#[tactic(auto, using(crate::proofs::Headers::hoppings, crate::proofs::Fronts::passings))]
 fn body_by_headers(store: &[u8], number: usize) -> &[u8]
     ensures { HandsPart store.entry (part_in three_bytes number store.now) result }
 {
     let mut at = 0;
-    loop {
-        match headed_at(store, at) {
-            Front::Here(n, from, to) => {
-                if n >= number {
-                    if n == number {
-                        return &store[from..to];
-                    }
-                    return &store[..0];
-                }
-                at = to;
+    while let Some(entry) = headed_at(store, at) {
+        if entry.number >= number {
+            if entry.number == number {
+                return &store[entry.from..entry.to];
             }
-            Front::NoEntry => {
-                return &store[..0];
-            }
+            return &store[..0];
         }
+        at = entry.to;
     }
-}
-
-// What look up gives where both stores are known to be well formed: no byte of a body is looked at.
-pub fn look_by_headers<'a>(volatile: &'a [u8], saved: &'a [u8], number: i32) -> &'a [u8]
-    ensures result_value { result.now ≡ looked_by_headers three_bytes volatile.now saved.now number }
-    ensures ref_ptr_value { result.ref_ptr ≡ body_pointer (placed_by_headers three_bytes volatile.now saved.now number) volatile.entry.ref_ptr saved.entry.ref_ptr }
-{
-    if !ranges::is_within(0, 32767, number) {
-        return &saved[..0];
-    }
-    let n = signs::magnitude(number) as usize;
-    let body = body_by_headers(volatile, n);
-    if body.len() > 0 {
-        return body;
-    }
-    body_by_headers(saved, n)
+    &store[..0]
 }

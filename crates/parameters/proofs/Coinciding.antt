@@ -7,17 +7,16 @@ use lib.ListN.{get_or, length}
 use lib.Seq.{length-take-le}
 use lib.IntN.{ℤ, pos}
 use Rattle.memory.specs.declared.Point.{Point}
+use Rattle.std.specs.Prelude.{Option, Some, None, Result, Ok, Err}
+use Rattle.refusals.specs.declared.Refusal.{Refusal}
+use Rattle.refusals.specs.declared.RefusedAt.{RefusedAt}
+use Rattle.parameters.specs.declared.Entry.{Entry}
+use Rattle.parameters.specs.declared.TakenParameters.{TakenParameters}
 use Rattle.refusals.specs.Answers.{Answer, done, refused, pick}
 use Rattle.refusals.proofs.Coinciding.{named, named_back, coincide}
 use Rattle.parameters.specs.declared.Entry.TheVariants.{AnInteger, ACharacter}
 use Rattle.parameters.specs.declared.Parameters.{Parameters}
 use Rattle.parameters.specs.declared.Parameters.TheVariants.{OneInteger, TwoIntegers, ThreeIntegers, OnePoint, TwoPoints, AReal, TwoCharacters, AString, AnArray, IntegerThenString, IntegerThenArray}
-use Rattle.parameters.specs.declared.ParametersRead.{ParametersRead}
-use Rattle.parameters.specs.declared.ParametersRead.TheVariants.{Whole}
-use Rattle.parameters.specs.declared.Tail.{Tail}
-use Rattle.parameters.specs.declared.Tail.TheVariants.{NoList, ListOf}
-use Rattle.parameters.specs.declared.LastPoint.{LastPoint}
-use Rattle.parameters.specs.declared.LastPoint.TheVariants.{NoPoint, Last}
 use Rattle.parameters.specs.Shapes.{Tailed, no_list, list_of, tail_meant, Pointed, no_point, last, point_meant, Value, number, scaled, place, values_of, tail_of}
 use Rattle.parameters.specs.declared.Numbers.{Numbers}
 use Rattle.parameters.specs.Numbers.{Holds, numbers_of}
@@ -89,16 +88,16 @@ parameters-for AnArray = refl
 parameters-for (IntegerThenString a) = refl
 parameters-for (IntegerThenArray a) = refl
 
-look_back : Answer Parsed → ParametersRead
-look_back (done p) = Whole (record { parameters = parameters_for p.values p.tail; run = record { start = p.start; count = p.count }; next = p.next; kept = p.kept })
-look_back (refused e p) = ParametersRead.Refused (named e) p
+look_back : Answer Parsed → Result TakenParameters RefusedAt
+look_back (done p) = Ok (record { parameters = parameters_for p.values p.tail; run = record { start = p.start; count = p.count; next = p.next }; kept = p.kept })
+look_back (refused e p) = Err (record { refusal = named e; place = p })
 
-look_same : (r : ParametersRead) → look_back (look_of r) ≡ r
+look_same : (r : Result TakenParameters RefusedAt) → look_back (look_of r) ≡ r
 unfolding look_of look_back
-look_same (Whole t) = ap (λ x. Whole (record { parameters = x; run = t.run; next = t.next; kept = t.kept })) (parameters-for t.parameters)
-look_same (ParametersRead.Refused e p) = ap (λ x. ParametersRead.Refused x p) (named_back e)
+look_same (Ok t) = ap (λ (x : Parameters). Ok (record { parameters = x; run = t.run; kept = t.kept })) (parameters-for t.parameters)
+look_same (Err e) = ap (λ (x : Refusal). Err (record { refusal = x; place = e.place })) (named_back e.refusal)
 
-pub looks_coincide : {x y : ParametersRead} {d : Answer Parsed} → look_of x ≡ d → look_of y ≡ d → x ≡ y
+pub looks_coincide : {x y : Result TakenParameters RefusedAt} {d : Answer Parsed} → look_of x ≡ d → look_of y ≡ d → x ≡ y
 looks_coincide = coincide look_of look_back look_same
 
 -- ---- numbers_of
@@ -116,26 +115,26 @@ numbers-coincide vs x y h k =
 
 -- ---- tail_of and last_point
 
-tail-back : Tailed → Tail
-tail-back no_list = NoList
-tail-back (list_of e) = ListOf e
+tail-back : Tailed → Option Entry
+tail-back no_list = None
+tail-back (list_of e) = Some e
 
-tail-same : (t : Tail) → tail-back (tail_meant t) ≡ t
+tail-same : (t : Option Entry) → tail-back (tail_meant t) ≡ t
 unfolding tail-back
-tail-same NoList = refl
-tail-same (ListOf e) = refl
+tail-same None = refl
+tail-same (Some e) = refl
 
-pub tails_coincide : (x y : Tail) {d : Tailed} → tail_meant x ≡ d → tail_meant y ≡ d → x ≡ y
+pub tails_coincide : (x y : Option Entry) {d : Tailed} → tail_meant x ≡ d → tail_meant y ≡ d → x ≡ y
 tails_coincide x y = coincide tail_meant tail-back tail-same
 
-point-back : Pointed → LastPoint
-point-back no_point = NoPoint
-point-back (last p) = Last p
+point-back : Pointed → Option Point
+point-back no_point = None
+point-back (last p) = Some p
 
-point-same : (r : LastPoint) → point-back (point_meant r) ≡ r
+point-same : (r : Option Point) → point-back (point_meant r) ≡ r
 unfolding point-back
-point-same NoPoint = refl
-point-same (Last p) = refl
+point-same None = refl
+point-same (Some p) = refl
 
-pub last-points_coincide : (x y : LastPoint) {d : Pointed} → point_meant x ≡ d → point_meant y ≡ d → x ≡ y
+pub last-points_coincide : (x y : Option Point) {d : Pointed} → point_meant x ≡ d → point_meant y ≡ d → x ≡ y
 last-points_coincide x y = coincide point_meant point-back point-same

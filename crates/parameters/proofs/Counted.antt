@@ -8,7 +8,8 @@ use Rattle.refusals.specs.Answers.{done}
 use Rattle.refusals.proofs.Cases.{by_then, Done, done-of, is-done, not_done}
 use Rattle.numbers.specs.Counts.{count_at}
 use Rattle.numbers.proofs.Shortest.{count-shown}
-use Rattle.parameters.specs.Entries.{entries_end, CountedRun, run_at}
+use Rattle.parameters.specs.declared.CountedRun.{CountedRun}
+use Rattle.parameters.specs.Entries.{entries_end, run_at}
 use Rattle.parameters.specs.Shapes.{Tailed, no_list, list_of, Shape}
 use Rattle.parameters.specs.Looking.{fixed_at, tail_at, Parsed, parameters_at}
 

@@ -11,43 +11,32 @@ use lib.ListN.{length, get_or, take, drop, set, length-set, length-map, length-d
 use lib.Seq.{sets, sets-eq, take_at, take_all, drop-cons, length-take-le, length-sets, paste, paste-zero, paste-suc}
 use lib.IntN.{ℤ, pos}
 use Rattle.memory.specs.declared.Remembered.{Remembered}
-use Rattle.refusals.specs.declared.Refusal.{Refusal}
+use Rattle.std.specs.Prelude.{Result, Ok, Err}
+use Rattle.refusals.specs.declared.RefusedAt.{RefusedAt}
 use Rattle.refusals.specs.Refusals.{number_of}
 use Rattle.refusals.specs.declared.Taken.{Taken}
-use Rattle.refusals.specs.Answers.{Answer, done, refused, then, pick, every, value_or, ends_after, all_after}
+use Rattle.refusals.specs.Answers.{answer_at, Answer, done, refused, then, pick, every, value_or, ends_after, all_after}
 use Rattle.refusals.proofs.Cases.{by_then, and_left, and_right, Done, done-of, done-map, is-done, not_done}
 use Rattle.refusals.proofs.Many as many
-use Rattle.wire.specs.declared.TakenByte.{TakenByte}
-use Rattle.wire.specs.declared.ByteRead.{ByteRead}
-use Rattle.wire.specs.declared.ByteRead.TheVariants.{Byte}
-use Rattle.wire.specs.Taking.{byte_at, byte_of, is_itself}
+use Rattle.wire.specs.Taking.{byte_at, is_itself}
 use Rattle.wire.proofs.Feeds.{byte_given, none_given, itself_taken}
-use Rattle.numbers.specs.declared.TakenInteger.{TakenInteger}
-use Rattle.numbers.specs.declared.TakenCount.{TakenCount}
-use Rattle.numbers.specs.declared.IntegerRead.{IntegerRead}
-use Rattle.numbers.specs.declared.IntegerRead.TheVariants.{Integer}
-use Rattle.numbers.specs.declared.CountRead.{CountRead}
-use Rattle.numbers.specs.declared.CountRead.TheVariants.{Count}
-use Rattle.numbers.specs.Integers.{integer_of, integer_at}
-use Rattle.numbers.specs.Counts.{count_at, count_of}
+use Rattle.numbers.specs.Integers.{integer_at}
+use Rattle.numbers.specs.Counts.{count_at}
 use Rattle.numbers.proofs.Shortest.{count-shown}
+use Rattle.parameters.specs.declared.CountedRun.{CountedRun}
 use Rattle.parameters.specs.declared.Entry.{Entry}
 use Rattle.parameters.specs.declared.Entry.TheVariants.{AnInteger, ACharacter}
-use Rattle.parameters.specs.declared.EntriesEnd.{EntriesEnd}
-use Rattle.parameters.specs.declared.EntriesEnd.TheVariants.{End}
-use Rattle.parameters.specs.declared.RunRead.{RunRead}
-use Rattle.parameters.specs.declared.RunRead.TheVariants.{Counted}
-use Rattle.parameters.specs.Entries.{entry_at, entries_end, entry_values, entries_end_of, run_of, run_at, handed, after_run, list_behind, characters_ahead}
+use Rattle.parameters.specs.Entries.{entry_at, entries_end, entry_values, run_at, handed, after_run, list_behind, characters_ahead}
 
 -- ---- one entry
 
 module _ (kept : Remembered) (s : List ℕ) (at : ℕ) where
-  pub character_is : (x : ℤ) {y : ℤ} {r : ByteRead} {b : TakenByte} → byte_of r ≡ byte_at kept s at → r ≡ Byte b → y ≡ pos b.value → x ≡ y → integer_of (Integer (record { value = x; place = b.place; next = b.next })) ≡ entry_at ACharacter kept s at
-  unfolding entry_at integer_of
+  pub character_is : (x : ℤ) {y : ℤ} {r : Result (Taken ℕ) RefusedAt} {b : Taken ℕ} → answer_at r ≡ byte_at kept s at → r ≡ Ok b → y ≡ pos b.value → x ≡ y → answer_at (Ok (record { value = x; place = b.place; next = b.next })) ≡ entry_at ACharacter kept s at
+  unfolding entry_at answer_at
   character_is x e g j i = rw (i, j, byte_given kept s at e g)
 
-  pub character_no : {r : ByteRead} {x : Refusal} {p : ℕ} → byte_of r ≡ byte_at kept s at → r ≡ ByteRead.Refused x p → integer_of (IntegerRead.Refused x p) ≡ entry_at ACharacter kept s at
-  unfolding entry_at integer_of
+  pub character_no : {r : Result (Taken ℕ) RefusedAt} {x : RefusedAt} → answer_at r ≡ byte_at kept s at → r ≡ Err x → answer_at {A = Taken ℤ} (Err x) ≡ entry_at ACharacter kept s at
+  unfolding entry_at answer_at
   character_no e g = rw (none_given kept s at e g)
 
   pub integer-entry : {e : Entry} {q : Answer (Taken ℤ)} → e ≡ AnInteger → q ≡ integer_at kept s at → q ≡ entry_at e kept s at
@@ -60,12 +49,12 @@ module _ (kept : Remembered) (s : List ℕ) (at : ℕ) where
 pub ruleset entries = (character_is, character_no, integer-entry, character_entry)
 
 -- what a caller of `read_entry` has in hand
-pub entry_given : (e : Entry) (kept : Remembered) (s : List ℕ) (at : ℕ) {r : IntegerRead} {i : TakenInteger} → integer_of r ≡ entry_at e kept s at → r ≡ Integer i → entry_at e kept s at ≡ done (record { value = i.value; place = i.place; next = i.next })
-unfolding integer_of
+pub entry_given : (e : Entry) (kept : Remembered) (s : List ℕ) (at : ℕ) {r : Result (Taken ℤ) RefusedAt} {i : Taken ℤ} → answer_at r ≡ entry_at e kept s at → r ≡ Ok i → entry_at e kept s at ≡ done (record { value = i.value; place = i.place; next = i.next })
+unfolding answer_at
 entry_given e kept s at q g = sym q ∙ rw g
 
-pub entry_none : (e : Entry) (kept : Remembered) (s : List ℕ) (at : ℕ) {r : IntegerRead} {x : Refusal} {p : ℕ} → integer_of r ≡ entry_at e kept s at → r ≡ IntegerRead.Refused x p → entry_at e kept s at ≡ refused (number_of x) p
-unfolding integer_of
+pub entry_none : (e : Entry) (kept : Remembered) (s : List ℕ) (at : ℕ) {r : Result (Taken ℤ) RefusedAt} {x : RefusedAt} → answer_at r ≡ entry_at e kept s at → r ≡ Err x → entry_at e kept s at ≡ refused (number_of x.refusal) x.place
+unfolding answer_at
 entry_none e kept s at q g = sym q ∙ rw g
 
 -- ---- so many of them
@@ -79,12 +68,12 @@ pub passing_none : (e : Entry) (kept : Remembered) (s : List ℕ) (at count : �
 passing_none e kept s at count = let z : count - 0 ≡ count = omega arith in record { upto = omega arith; rest = rw z }
 
 module _ (e : Entry) (kept : Remembered) (s : List ℕ) (at count i n : ℕ) (f : Passing e kept s at count i n) where
-  pub passing_end : count ≤ i → entries_end_of (End n) ≡ entries_end e kept count s at
-  unfolding entries_end_of
+  pub passing_end : count ≤ i → answer_at (Ok n) ≡ entries_end e kept count s at
+  unfolding answer_at
   passing_end h = many.passed_all (entry_at e kept s) (count - i) n (omega arith) f.rest
 
-  module _ {r : IntegerRead} (g : integer_of r ≡ entry_at e kept s n) where
-    pub passing_more : {v : TakenInteger} → i < count → r ≡ Integer v → Passing e kept s at count (i + 1) v.next
+  module _ {r : Result (Taken ℤ) RefusedAt} (g : answer_at r ≡ entry_at e kept s n) where
+    pub passing_more : {v : Taken ℤ} → i < count → r ≡ Ok v → Passing e kept s at count (i + 1) v.next
     passing_more h k =
         let z : count - i - 1 ≡ count - (i + 1) = omega arith in
         record {
@@ -92,8 +81,8 @@ module _ (e : Entry) (kept : Remembered) (s : List ℕ) (at count i n : ℕ) (f 
           rest = rw z at (many.passed_one (entry_at e kept s) (count - i) n (entry_given e kept s n g k) (omega arith) f.rest);
         }
 
-    pub passing_cut : {x : Refusal} {p : ℕ} → i < count → r ≡ IntegerRead.Refused x p → entries_end_of (EntriesEnd.Refused x p) ≡ entries_end e kept count s at
-    unfolding entries_end_of
+    pub passing_cut : {x : RefusedAt} → i < count → r ≡ Err x → answer_at {A = ℕ} (Err x) ≡ entries_end e kept count s at
+    unfolding answer_at
     passing_cut h k = many.passed_none (entry_at e kept s) (count - i) n (entry_none e kept s n g k) (omega arith) f.rest
 
 pub ruleset passings = (passing_none, passing_end, passing_more, passing_cut)
@@ -108,29 +97,37 @@ reading-none e kept s at count l =
     record { passing = passing_none e kept s at count; filling = many.filling_none (entry_at e kept s) at count l }
 
 module _ (e : Entry) (kept : Remembered) (s : List ℕ) (at count : ℕ) (l₀ l : List ℤ) (i n : ℕ) (f : Reading e kept s at count l₀ l i n) where
-  pub reading-end : count ≤ i → entries_end_of (End n) ≡ entries_end e kept count s at
+  pub reading-end : count ≤ i → answer_at (Ok n) ≡ entries_end e kept count s at
   reading-end h = passing_end e kept s at count i n f.passing h
 
   pub reading-all : count ≤ i → l ≡ sets l₀ 0 (entry_values e kept count s at)
   reading-all h = many.filling_end (entry_at e kept s) at count l₀ l i n f.filling h
 
-  module _ {r : IntegerRead} (g : integer_of r ≡ entry_at e kept s n) where
-    pub reading-more : (x : ℤ) {v : TakenInteger} → i < count → r ≡ Integer v → x ≡ v.value → Reading e kept s at count l₀ (set l i x) (i + 1) v.next
-    reading-more x h k j =
+  module _ {r : Result (Taken ℤ) RefusedAt} (g : answer_at r ≡ entry_at e kept s n) where
+    pub reading_more : (x : ℤ) {v : Taken ℤ} → i < count → r ≡ Ok v → x ≡ v.value → Reading e kept s at count l₀ (set l i x) (i + 1) v.next
+    reading_more x h k j =
         record {
           passing = passing_more e kept s at count i n f.passing g h k;
           filling = rw j (many.filling_more (entry_at e kept s) at count l₀ l i n f.filling h (entry_given e kept s n g k));
         }
 
-    pub reading-cut : {x : Refusal} {p : ℕ} → i < count → r ≡ IntegerRead.Refused x p → entries_end_of (EntriesEnd.Refused x p) ≡ entries_end e kept count s at
-    reading-cut h k = passing_cut e kept s at count i n f.passing g h k
+    pub reading_cut : {x : RefusedAt} → i < count → r ≡ Err x → answer_at {A = ℕ} (Err x) ≡ entries_end e kept count s at
+    reading_cut h k = passing_cut e kept s at count i n f.passing g h k
 
-    pub reading-some : {x : Refusal} {p : ℕ} → r ≡ IntegerRead.Refused x p → l ≡ sets l₀ 0 (entry_values e kept count s at)
-    reading-some k = many.filling_cut (entry_at e kept s) at count l₀ l i n f.filling (entry_none e kept s n g k)
+    pub reading_some : {x : RefusedAt} → r ≡ Err x → l ≡ sets l₀ 0 (entry_values e kept count s at)
+    reading_some k = many.filling_cut (entry_at e kept s) at count l₀ l i n f.filling (entry_none e kept s n g k)
 
-pub ruleset readings = (reading-none, reading-end, reading-all, reading-more, reading-cut, reading-some)
+pub ruleset readings = (reading-none, reading-end, reading-all, reading_more, reading_cut, reading_some)
 
 -- ---- handing them over
+
+pub front_handed : (es l : List ℤ) (k : ℕ) {o : List ℤ} → k ≤ length es → k ≤ length l → o ≡ take k es → o ++ drop k l ≡ sets l 0 (take k es)
+front_handed es l k there room e =
+    let long : length (take k es) ≡ k = length-take-le k es there in
+    let z : k ≡ 0 + length (take k es) = omega (arith, long) in
+    ap (λ (w : List ℤ). w ++ drop k l) e
+    ∙ ap (λ (n : ℕ). take k es ++ drop n l) z
+    ∙ sym (sets-eq (take k es) l 0 (omega (arith, room, long)))
 
 pub record Handing (es : List ℤ) (k : ℕ) (l₀ l : List ℤ) (i : ℕ) : Type 0 where
   pub upto : i ≤ k
@@ -196,19 +193,19 @@ module _ (e : Entry) (kept : Remembered) (k : ℕ) (s : List ℕ) (at : ℕ) whe
       go (done n) = rw (lt-leb k (length l) h)
       go (refused x p) = refl
 
-  module _ {t : EntriesEnd} (et : entries_end_of t ≡ entries_end e kept k s at) where
-    pub end-handed : {u : EntriesEnd} → t ≡ u → entries_end_of u ≡ entries_end e kept k s at
-    end-handed h = sym (ap entries_end_of h) ∙ et
+  module _ {t : Result ℕ RefusedAt} (et : answer_at t ≡ entries_end e kept k s at) where
+    pub end_handed : {u : Result ℕ RefusedAt} → t ≡ u → answer_at u ≡ entries_end e kept k s at
+    end_handed h = sym (ap answer_at h) ∙ et
 
-    pub cut_handed : (l : List ℤ) {x : Refusal} {q : ℕ} → t ≡ EntriesEnd.Refused x q → l ≡ list_behind e kept k s at l
-    unfolding list_behind entries_end_of value_or
+    pub cut_handed : (l : List ℤ) {x : RefusedAt} → t ≡ Err x → l ≡ list_behind e kept k s at l
+    unfolding list_behind answer_at value_or
     cut_handed l h = rw (← et, h)
 
-    ended : {m : ℕ} → t ≡ End m → entries_end e kept k s at ≡ done m
-    unfolding entries_end_of
+    ended : {m : ℕ} → t ≡ Ok m → entries_end e kept k s at ≡ done m
+    unfolding answer_at
     ended h = sym et ∙ rw h
 
-    pub all_handed : (l z : List ℤ) {es o : List ℤ} {m : ℕ} → t ≡ End m → k ≤ 256 → k ≤ length l → length z ≡ 256 → es ≡ sets z 0 (entry_values e kept k s at) → o ≡ sets l 0 (take k es) → o ≡ list_behind e kept k s at l
+    pub all_handed : (l z : List ℤ) {es o : List ℤ} {m : ℕ} → t ≡ Ok m → k ≤ 256 → k ≤ length l → length z ≡ 256 → es ≡ sets z 0 (entry_values e kept k s at) → o ≡ sets l 0 (take k es) → o ≡ list_behind e kept k s at l
     unfolding list_behind handed value_or
     all_handed l z h b room y q j =
         let all = entry_values e kept k s at in
@@ -219,17 +216,17 @@ module _ (e : Entry) (kept : Remembered) (k : ℕ) (s : List ℕ) (at : ℕ) whe
         ∙ ap (λ (w : List ℤ). sets l 0 w) front
         ∙ rw (ended h, le-leb k (length l) room)
 
-pub ruleset handed-over = (stored_there, none_handed, end-handed, cut_handed, all_handed)
+pub ruleset handed_over = (stored_there, none_handed, end_handed, cut_handed, all_handed)
 
 -- ---- a count and that many entries
 
-module _ (kept : Remembered) (s : List ℕ) (at : ℕ) {c : CountRead} (ec : count_of c ≡ count_at kept s at) {k : TakenCount} (g : c ≡ Count k) where
+module _ (kept : Remembered) (s : List ℕ) (at : ℕ) {c : Result (Taken ℕ) RefusedAt} (ec : answer_at c ≡ count_at kept s at) {k : Taken ℕ} (g : c ≡ Ok k) where
   count-given : count_at kept s at ≡ done (record { value = k.value; place = k.place; next = k.next })
-  unfolding count_of
+  unfolding answer_at
   count-given = sym ec ∙ rw g
 
-  pub count-few : k.value ≤ 256
-  count-few = (count-shown kept s at count-given).writable
+  pub count_few : k.value ≤ 256
+  count_few = (count-shown kept s at count-given).writable
 
 -- the list behind a counted one, once the count is known
 run-list : (e : Entry) (kept : Remembered) (k : ℕ) (s : List ℕ) (start : ℕ) (l : List ℤ) (q : Answer ℕ) → value_or l (λ (n : ℕ). handed k (entry_values e kept k s start) l) q ≡ after_run e kept s (then q (λ n. done (record { start = start; count = k; next = n }))) l
@@ -237,30 +234,30 @@ unfolding after_run value_or
 run-list e kept k s start l (done n) = refl
 run-list e kept k s start l (refused x p) = refl
 
-module _ (e : Entry) (kept : Remembered) (s : List ℕ) (at : ℕ) {c : CountRead} (ec : count_of c ≡ count_at kept s at) where
-  pub run-no : {x : Refusal} {p : ℕ} → c ≡ CountRead.Refused x p → run_of (RunRead.Refused x p) ≡ run_at e kept s at
-  unfolding run_at run_of count_of
+module _ (e : Entry) (kept : Remembered) (s : List ℕ) (at : ℕ) {c : Result (Taken ℕ) RefusedAt} (ec : answer_at c ≡ count_at kept s at) where
+  pub run-no : {x : RefusedAt} → c ≡ Err x → answer_at {A = CountedRun} (Err x) ≡ run_at e kept s at
+  unfolding run_at answer_at
   run-no g = rw (← ec, g)
 
-  pub kept-no : (l : List ℤ) {x : Refusal} {p : ℕ} → c ≡ CountRead.Refused x p → l ≡ after_run e kept s (run_at e kept s at) l
-  unfolding run_at after_run count_of
+  pub kept-no : (l : List ℤ) {x : RefusedAt} → c ≡ Err x → l ≡ after_run e kept s (run_at e kept s at) l
+  unfolding run_at after_run answer_at
   kept-no l g = rw (← ec, g)
 
-  module _ {k : TakenCount} (g : c ≡ Count k) where
+  module _ {k : Taken ℕ} (g : c ≡ Ok k) where
     pub run-left : (l : List ℤ) {o : List ℤ} → o ≡ list_behind e kept k.value s k.next l → o ≡ after_run e kept s (run_at e kept s at) l
-    unfolding run_at count_of list_behind
+    unfolding run_at answer_at list_behind
     run-left l j = j ∙ run-list e kept k.value s k.next l (entries_end e kept k.value s k.next) ∙ rw (← ec, g)
 
-    module _ {t : EntriesEnd} (et : entries_end_of t ≡ entries_end e kept k.value s k.next) where
-      pub run-cut : {x : Refusal} {q : ℕ} → t ≡ EntriesEnd.Refused x q → run_of (RunRead.Refused x q) ≡ run_at e kept s at
-      unfolding run_at run_of count_of entries_end_of
+    module _ {t : Result ℕ RefusedAt} (et : answer_at t ≡ entries_end e kept k.value s k.next) where
+      pub run-cut : {x : RefusedAt} → t ≡ Err x → answer_at {A = CountedRun} (Err x) ≡ run_at e kept s at
+      unfolding run_at answer_at
       run-cut h = rw (← ec, g, ← et, h)
 
-      pub run-whole : {m : ℕ} → t ≡ End m → run_of (Counted (record { start = k.next; count = k.value }) m) ≡ run_at e kept s at
-      unfolding run_at run_of count_of entries_end_of
+      pub run-whole : {m : ℕ} → t ≡ Ok m → answer_at (Ok (record { start = k.next; count = k.value; next = m })) ≡ run_at e kept s at
+      unfolding run_at answer_at
       run-whole h = rw (← ec, g, ← et, h)
 
-pub ruleset runs = (count-few, run-no, kept-no, run-left, run-cut, run-whole)
+pub ruleset runs = (count_few, run-no, kept-no, run-left, run-cut, run-whole)
 
 -- ---- characters that are taken as they stand
 
@@ -340,8 +337,8 @@ module _ (kept : Remembered) (k : ℕ) (s : List ℕ) (at : ℕ) {r : Bool} (er 
   so : AsTheyStand kept k s at
   so = standing kept k s at er t
 
-  pub characters-end : entries_end_of (End (at + k)) ≡ entries_end ACharacter kept k s at
-  unfolding entries_end_of
+  pub characters-end : answer_at (Ok (at + k)) ≡ entries_end ACharacter kept k s at
+  unfolding answer_at
   characters-end = sym so.end_is
 
   -- the part of the bytes that is laid
@@ -364,15 +361,17 @@ module _ (kept : Remembered) (k : ℕ) (s : List ℕ) (at : ℕ) {r : Bool} (er 
   characters-laid l h e =
       e ∙ ap (λ (w : List ℕ). sets l 0 (map pos w)) part-is ∙ rw (so.end_is, so.values-are, le-leb k (length l) h)
 
-  pub characters-few : length s < 2 ^ 64 → at + k < 2 ^ 64
-  characters-few h = omega (arith, h, ahead_room kept k s at er t)
+  pub characters_few : length s < 2 ^ 64 → at + k < 2 ^ 64
+  characters_few h = omega (arith, h, ahead_room kept k s at er t)
 
 pub ruleset strings = (ahead_room, characters-end, characters-fit, characters-laid)
 
 -- what holds of characters holds of entries that are characters
 module _ (kept : Remembered) (k : ℕ) (s : List ℕ) (at : ℕ) {e : Entry} (g : e ≡ ACharacter) where
-  pub kind-end : {q : Answer ℕ} → q ≡ entries_end ACharacter kept k s at → q ≡ entries_end e kept k s at
-  kind-end j = rw g j
+  pub kind_end : {q : Answer ℕ} → q ≡ entries_end ACharacter kept k s at → q ≡ entries_end e kept k s at
+  kind_end j = rw g j
 
-  pub kind-left : (l : List ℤ) {o : List ℤ} → o ≡ list_behind ACharacter kept k s at l → o ≡ list_behind e kept k s at l
-  kind-left l j = rw g j
+  pub kind_left : (l : List ℤ) {o : List ℤ} → o ≡ list_behind ACharacter kept k s at l → o ≡ list_behind e kept k s at l
+  kind_left l j = rw g j
+
+pub ruleset kinds = (kind_end, kind_left)

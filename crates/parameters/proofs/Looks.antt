@@ -6,56 +6,48 @@ use native.Mathlib.Omega.{arith}
 use borrow.Author.Tests.{le-leb}
 use lib.ListN.{length}
 use lib.IntN.{ℤ}
+use Rattle.memory.specs.declared.Point.{Point}
 use Rattle.memory.specs.declared.Remembered.{Remembered}
 use Rattle.memory.specs.Memory.{remember}
-use Rattle.refusals.specs.declared.Refusal.{Refusal}
+use Rattle.std.specs.Prelude.{Result, Ok, Err}
+use Rattle.refusals.specs.declared.RefusedAt.{RefusedAt}
 use Rattle.refusals.specs.Refusals.{number_of}
 use Rattle.refusals.specs.declared.Taken.{Taken}
-use Rattle.refusals.specs.Answers.{Answer, done, refused, then, all_after}
+use Rattle.refusals.specs.Answers.{answer_at, Answer, done, refused, then, all_after}
 use Rattle.refusals.proofs.Cases.{by_then}
-use Rattle.numbers.specs.declared.TakenInteger.{TakenInteger}
-use Rattle.numbers.specs.declared.IntegerRead.{IntegerRead}
-use Rattle.numbers.specs.declared.IntegerRead.TheVariants.{Integer}
-use Rattle.numbers.specs.Integers.{integer_of, integer_at}
-use Rattle.points.specs.declared.TakenPoint.{TakenPoint}
-use Rattle.points.specs.declared.PointRead.{PointRead}
-use Rattle.points.specs.declared.PointRead.TheVariants.{At}
-use Rattle.points.specs.Reading.{point_of, point_at}
+use Rattle.numbers.specs.Integers.{integer_at}
+use Rattle.points.specs.Reading.{point_at}
 use Rattle.table.specs.declared.Kind.{Kind}
 use Rattle.table.specs.Table.{kind_meant}
 use Rattle.table.specs.Table as K
 use Rattle.parameters.specs.declared.Entry.{Entry}
 use Rattle.parameters.specs.declared.Entry.TheVariants.{AnInteger, ACharacter}
-use Rattle.parameters.specs.declared.Run.{Run}
+use Rattle.parameters.specs.declared.CountedRun.{CountedRun}
+use Rattle.parameters.specs.declared.TwoEntries.{TwoEntries}
 use Rattle.parameters.specs.declared.Parameters.{Parameters}
 use Rattle.parameters.specs.declared.Parameters.TheVariants.{OneInteger, TwoIntegers, ThreeIntegers, OnePoint, TwoPoints, AReal, TwoCharacters}
-use Rattle.parameters.specs.declared.TwoEntriesRead.{TwoEntriesRead}
-use Rattle.parameters.specs.declared.TwoEntriesRead.TheVariants.{Both}
-use Rattle.parameters.specs.declared.RunRead.{RunRead}
-use Rattle.parameters.specs.declared.RunRead.TheVariants.{Counted}
-use Rattle.parameters.specs.declared.ParametersRead.{ParametersRead}
-use Rattle.parameters.specs.Entries.{entry_at, CountedRun, run_of, run_at, handed, after_run}
+use Rattle.parameters.specs.Entries.{entry_at, run_at, handed, after_run}
 use Rattle.parameters.specs.Shapes.{Tailed, no_list, list_of, Part, single, Shape, shape_of, list_shape, integer_then_list_shape, Value, number, values_of, tail_of}
-use Rattle.parameters.specs.Looking.{TwoEntries, two_entries_at, two_entries_of, Fixed, part_at, fixed_at, tail_at, Parsed, parameters_at, parsed_as, look_of, after_look}
+use Rattle.parameters.specs.Looking.{two_entries_at, Fixed, part_at, fixed_at, tail_at, Parsed, parameters_at, parsed_as, look_of, after_look}
 use Rattle.parameters.proofs.Entering.{entry_given, entry_none}
 
 -- ---- two entries
 
-module _ (e : Entry) (kept : Remembered) (s : List ℕ) (at : ℕ) {r : IntegerRead} (er : integer_of r ≡ entry_at e kept s at) where
-  pub two-entries_no : {x : Refusal} {p : ℕ} → r ≡ IntegerRead.Refused x p → two_entries_of (TwoEntriesRead.Refused x p) ≡ two_entries_at e kept s at
-  unfolding two_entries_at two_entries_of
+module _ (e : Entry) (kept : Remembered) (s : List ℕ) (at : ℕ) {r : Result (Taken ℤ) RefusedAt} (er : answer_at r ≡ entry_at e kept s at) where
+  pub two-entries_no : {x : RefusedAt} → r ≡ Err x → answer_at {A = TwoEntries} (Err x) ≡ two_entries_at e kept s at
+  unfolding two_entries_at answer_at
   two-entries_no g = rw (entry_none e kept s at er g)
 
-  module _ {i : TakenInteger} (g : r ≡ Integer i) {q : IntegerRead} (eq : integer_of q ≡ entry_at e kept s i.next) where
-    pub two-entries_half : {x : Refusal} {p₂ : ℕ} → q ≡ IntegerRead.Refused x p₂ → two_entries_of (TwoEntriesRead.Refused x p₂) ≡ two_entries_at e kept s at
-    unfolding two_entries_at two_entries_of
+  module _ {i : Taken ℤ} (g : r ≡ Ok i) {q : Result (Taken ℤ) RefusedAt} (eq : answer_at q ≡ entry_at e kept s i.next) where
+    pub two-entries_half : {x : RefusedAt} → q ≡ Err x → answer_at {A = TwoEntries} (Err x) ≡ two_entries_at e kept s at
+    unfolding two_entries_at answer_at
     two-entries_half h = rw (entry_given e kept s at er g, entry_none e kept s i.next eq h)
 
-    pub two-entries_both : (x y : ℤ) {j : TakenInteger} → q ≡ Integer j → x ≡ i.value → y ≡ j.value → two_entries_of (Both x y j.next) ≡ two_entries_at e kept s at
-    unfolding two_entries_at two_entries_of
+    pub two-entries_both : (x y : ℤ) {j : Taken ℤ} → q ≡ Ok j → x ≡ i.value → y ≡ j.value → answer_at (Ok (record { one = x; two = y; next = j.next })) ≡ two_entries_at e kept s at
+    unfolding two_entries_at answer_at
     two-entries_both x y h ex ey = rw (ex, ey, entry_given e kept s at er g, entry_given e kept s i.next eq h)
 
-pub ruleset two-entries = (two-entries_no, two-entries_half, two-entries_both)
+pub ruleset two_entries = (two-entries_no, two-entries_half, two-entries_both)
 
 -- two single parts are a pair
 abbrev before : Value → Fixed → Answer Fixed
@@ -98,93 +90,93 @@ as_two_entries e kept ps s at = first_part e kept (entry_at e kept s at) (λ k n
 -- ---- kinds without a list
 
 abbrev without : Parameters → ℕ → Remembered → Answer Parsed
-without ps n kept = done (parsed_as ps (record { start = 0; count = 0 }) n kept)
+without ps n kept = done (parsed_as ps (record { start = 0; count = 0; next = n }) kept)
 
 module _ (kept : Remembered) (s : List ℕ) (at : ℕ) where
-  module _ {r : IntegerRead} (er : integer_of r ≡ integer_at kept s at) where
-    given : {v : TakenInteger} → r ≡ Integer v → integer_at kept s at ≡ done (record { value = v.value; place = v.place; next = v.next })
-    unfolding integer_of
+  module _ {r : Result (Taken ℤ) RefusedAt} (er : answer_at r ≡ integer_at kept s at) where
+    given : {v : Taken ℤ} → r ≡ Ok v → integer_at kept s at ≡ done (record { value = v.value; place = v.place; next = v.next })
+    unfolding answer_at
     given g = sym er ∙ rw g
 
-    pub one-integer_no : {x : Refusal} {p : ℕ} → r ≡ IntegerRead.Refused x p → look_of (ParametersRead.Refused x p) ≡ parameters_at kept (shape_of K.one_integer) s at
-    unfolding parameters_at fixed_at part_at entry_at look_of integer_of
+    pub one-integer_no : {x : RefusedAt} → r ≡ Err x → look_of (Err x) ≡ parameters_at kept (shape_of K.one_integer) s at
+    unfolding parameters_at fixed_at part_at entry_at look_of answer_at
     one-integer_no g = rw (← er, g)
 
-    pub one-integer_is : (x : ℤ) {v : TakenInteger} {t : Answer Parsed} → r ≡ Integer v → x ≡ v.value → t ≡ without (OneInteger x) v.next kept → t ≡ parameters_at kept (shape_of K.one_integer) s at
+    pub one-integer_is : (x : ℤ) {v : Taken ℤ} {t : Answer Parsed} → r ≡ Ok v → x ≡ v.value → t ≡ without (OneInteger x) v.next kept → t ≡ parameters_at kept (shape_of K.one_integer) s at
     unfolding parameters_at fixed_at part_at entry_at tail_at look_of
     one-integer_is x g i j = rw (j, i, given g)
 
-  module _ (e : Entry) {r : TwoEntriesRead} (er : two_entries_of r ≡ two_entries_at e kept s at) where
-    both : {v w : ℤ} {n : ℕ} → r ≡ Both v w n → two_entries_at e kept s at ≡ done (record { one = v; two = w; next = n })
-    unfolding two_entries_of
+  module _ (e : Entry) {r : Result TwoEntries RefusedAt} (er : answer_at r ≡ two_entries_at e kept s at) where
+    both : {b : TwoEntries} → r ≡ Ok b → two_entries_at e kept s at ≡ done b
+    unfolding answer_at
     both g = sym er ∙ rw g
 
-    not_both : {x : Refusal} {p : ℕ} → r ≡ TwoEntriesRead.Refused x p → two_entries_at e kept s at ≡ refused (number_of x) p
-    unfolding two_entries_of
+    not_both : {x : RefusedAt} → r ≡ Err x → two_entries_at e kept s at ≡ refused (number_of x.refusal) x.place
+    unfolding answer_at
     not_both g = sym er ∙ rw g
 
-  module _ {r : TwoEntriesRead} (er : two_entries_of r ≡ two_entries_at AnInteger kept s at) where
-    pub two-integers_no : {x : Refusal} {p : ℕ} → r ≡ TwoEntriesRead.Refused x p → look_of (ParametersRead.Refused x p) ≡ parameters_at kept (shape_of K.two_integers) s at
+  module _ {r : Result TwoEntries RefusedAt} (er : answer_at r ≡ two_entries_at AnInteger kept s at) where
+    pub two-integers_no : {x : RefusedAt} → r ≡ Err x → look_of (Err x) ≡ parameters_at kept (shape_of K.two_integers) s at
     unfolding parameters_at look_of
     two-integers_no g = rw (as_two_entries AnInteger kept [] s at, not_both AnInteger er g)
 
-    pub two-integers_is : (x y : ℤ) {v w : ℤ} {n : ℕ} {t : Answer Parsed} → r ≡ Both v w n → x ≡ v → y ≡ w → t ≡ without (TwoIntegers x y) n kept → t ≡ parameters_at kept (shape_of K.two_integers) s at
+    pub two-integers_is : (x y : ℤ) {b : TwoEntries} {t : Answer Parsed} → r ≡ Ok b → x ≡ b.one → y ≡ b.two → t ≡ without (TwoIntegers x y) b.next kept → t ≡ parameters_at kept (shape_of K.two_integers) s at
     unfolding parameters_at fixed_at tail_at look_of
     two-integers_is x y g i j k = rw (k, i, j, as_two_entries AnInteger kept [] s at, both AnInteger er g)
 
-    pub real-no : {x : Refusal} {p : ℕ} → r ≡ TwoEntriesRead.Refused x p → look_of (ParametersRead.Refused x p) ≡ parameters_at kept (shape_of K.a_real) s at
+    pub real-no : {x : RefusedAt} → r ≡ Err x → look_of (Err x) ≡ parameters_at kept (shape_of K.a_real) s at
     unfolding parameters_at fixed_at part_at look_of
     real-no g = rw (not_both AnInteger er g)
 
-    pub real-is : (x y : ℤ) {v w : ℤ} {n : ℕ} {t : Answer Parsed} → r ≡ Both v w n → x ≡ v → y ≡ w → t ≡ without (AReal (record { mantissa = x; exponent = y })) n kept → t ≡ parameters_at kept (shape_of K.a_real) s at
+    pub real-is : (x y : ℤ) {b : TwoEntries} {t : Answer Parsed} → r ≡ Ok b → x ≡ b.one → y ≡ b.two → t ≡ without (AReal (record { mantissa = x; exponent = y })) b.next kept → t ≡ parameters_at kept (shape_of K.a_real) s at
     unfolding parameters_at fixed_at part_at tail_at look_of
     real-is x y g i j k = rw (k, i, j, both AnInteger er g)
 
-    pub three-integers_no : {x : Refusal} {p : ℕ} → r ≡ TwoEntriesRead.Refused x p → look_of (ParametersRead.Refused x p) ≡ parameters_at kept (shape_of K.three_integers) s at
+    pub three-integers_no : {x : RefusedAt} → r ≡ Err x → look_of (Err x) ≡ parameters_at kept (shape_of K.three_integers) s at
     unfolding parameters_at look_of
     three-integers_no g = rw (as_two_entries AnInteger kept (single AnInteger ∷ []) s at, not_both AnInteger er g)
 
-    module _ {v w : ℤ} {n : ℕ} (g : r ≡ Both v w n) {q : IntegerRead} (eq : integer_of q ≡ integer_at kept s n) where
-      pub three-integers_short : {x : Refusal} {p : ℕ} → q ≡ IntegerRead.Refused x p → look_of (ParametersRead.Refused x p) ≡ parameters_at kept (shape_of K.three_integers) s at
-      unfolding parameters_at fixed_at part_at entry_at look_of integer_of
+    module _ {b : TwoEntries} (g : r ≡ Ok b) {q : Result (Taken ℤ) RefusedAt} (eq : answer_at q ≡ integer_at kept s b.next) where
+      pub three-integers_short : {x : RefusedAt} → q ≡ Err x → look_of (Err x) ≡ parameters_at kept (shape_of K.three_integers) s at
+      unfolding parameters_at fixed_at part_at entry_at look_of answer_at
       three-integers_short h = rw (as_two_entries AnInteger kept (single AnInteger ∷ []) s at, both AnInteger er g, ← eq, h)
 
-      pub three-integers_is : (x y z : ℤ) {u : TakenInteger} {t : Answer Parsed} → q ≡ Integer u → x ≡ v → y ≡ w → z ≡ u.value → t ≡ without (ThreeIntegers x y z) u.next kept → t ≡ parameters_at kept (shape_of K.three_integers) s at
-      unfolding parameters_at fixed_at part_at entry_at tail_at look_of integer_of
+      pub three-integers_is : (x y z : ℤ) {u : Taken ℤ} {t : Answer Parsed} → q ≡ Ok u → x ≡ b.one → y ≡ b.two → z ≡ u.value → t ≡ without (ThreeIntegers x y z) u.next kept → t ≡ parameters_at kept (shape_of K.three_integers) s at
+      unfolding parameters_at fixed_at part_at entry_at tail_at look_of answer_at
       three-integers_is x y z h i j k l = rw (l, i, j, k, as_two_entries AnInteger kept (single AnInteger ∷ []) s at, both AnInteger er g, ← eq, h)
 
-  module _ {r : TwoEntriesRead} (er : two_entries_of r ≡ two_entries_at ACharacter kept s at) where
-    pub two-characters_no : {x : Refusal} {p : ℕ} → r ≡ TwoEntriesRead.Refused x p → look_of (ParametersRead.Refused x p) ≡ parameters_at kept (shape_of K.two_characters) s at
+  module _ {r : Result TwoEntries RefusedAt} (er : answer_at r ≡ two_entries_at ACharacter kept s at) where
+    pub two-characters_no : {x : RefusedAt} → r ≡ Err x → look_of (Err x) ≡ parameters_at kept (shape_of K.two_characters) s at
     unfolding parameters_at look_of
     two-characters_no g = rw (as_two_entries ACharacter kept [] s at, not_both ACharacter er g)
 
-    pub two-characters_is : (x y : ℤ) {v w : ℤ} {n : ℕ} {t : Answer Parsed} → r ≡ Both v w n → x ≡ v → y ≡ w → t ≡ without (TwoCharacters x y) n kept → t ≡ parameters_at kept (shape_of K.two_characters) s at
+    pub two-characters_is : (x y : ℤ) {b : TwoEntries} {t : Answer Parsed} → r ≡ Ok b → x ≡ b.one → y ≡ b.two → t ≡ without (TwoCharacters x y) b.next kept → t ≡ parameters_at kept (shape_of K.two_characters) s at
     unfolding parameters_at fixed_at tail_at look_of
     two-characters_is x y g i j k = rw (k, i, j, as_two_entries ACharacter kept [] s at, both ACharacter er g)
 
-  module _ {r : PointRead} (er : point_of r ≡ point_at kept s at) where
-    pub one-point_no : {x : Refusal} {p : ℕ} → r ≡ PointRead.Refused x p → look_of (ParametersRead.Refused x p) ≡ parameters_at kept (shape_of K.one_point) s at
-    unfolding parameters_at fixed_at part_at look_of point_of
+  module _ {r : Result (Taken Point) RefusedAt} (er : answer_at r ≡ point_at kept s at) where
+    pub one-point_no : {x : RefusedAt} → r ≡ Err x → look_of (Err x) ≡ parameters_at kept (shape_of K.one_point) s at
+    unfolding parameters_at fixed_at part_at look_of answer_at
     one-point_no g = rw (← er, g)
 
-    pub one-point_is : {v : TakenPoint} {t : Answer Parsed} {k : Remembered} → r ≡ At v → t ≡ without (OnePoint v.value) v.next k → k ≡ remember kept v.value → t ≡ parameters_at kept (shape_of K.one_point) s at
-    unfolding parameters_at fixed_at part_at tail_at look_of point_of
+    pub one-point_is : {v : Taken Point} {t : Answer Parsed} {k : Remembered} → r ≡ Ok v → t ≡ without (OnePoint v.value) v.next k → k ≡ remember kept v.value → t ≡ parameters_at kept (shape_of K.one_point) s at
+    unfolding parameters_at fixed_at part_at tail_at look_of answer_at
     one-point_is g i j = rw (i, j, ← er, g)
 
-    pub two-points_no : {x : Refusal} {p : ℕ} → r ≡ PointRead.Refused x p → look_of (ParametersRead.Refused x p) ≡ parameters_at kept (shape_of K.two_points) s at
-    unfolding parameters_at fixed_at part_at look_of point_of
+    pub two-points_no : {x : RefusedAt} → r ≡ Err x → look_of (Err x) ≡ parameters_at kept (shape_of K.two_points) s at
+    unfolding parameters_at fixed_at part_at look_of answer_at
     two-points_no g = rw (← er, g)
 
-    module _ {v : TakenPoint} (g : r ≡ At v) {k : Remembered} (ek : k ≡ remember kept v.value) (q : PointRead) (eq : point_of q ≡ point_at k s v.next) where
-      second : point_of q ≡ point_at (remember kept v.value) s v.next
+    module _ {v : Taken Point} (g : r ≡ Ok v) {k : Remembered} (ek : k ≡ remember kept v.value) (q : Result (Taken Point) RefusedAt) (eq : answer_at q ≡ point_at k s v.next) where
+      second : answer_at q ≡ point_at (remember kept v.value) s v.next
       second = rw ek at eq
 
-      pub two-points_half : {x : Refusal} {p₂ : ℕ} → q ≡ PointRead.Refused x p₂ → look_of (ParametersRead.Refused x p₂) ≡ parameters_at kept (shape_of K.two_points) s at
-      unfolding parameters_at fixed_at part_at look_of point_of
+      pub two-points_half : {x : RefusedAt} → q ≡ Err x → look_of (Err x) ≡ parameters_at kept (shape_of K.two_points) s at
+      unfolding parameters_at fixed_at part_at look_of answer_at
       two-points_half h = rw (← er, g, ← second, h)
 
-      pub two-points_is : {w : TakenPoint} {t : Answer Parsed} {l : Remembered} → q ≡ At w → t ≡ without (TwoPoints v.value w.value) w.next l → l ≡ remember k w.value → t ≡ parameters_at kept (shape_of K.two_points) s at
-      unfolding parameters_at fixed_at part_at tail_at look_of point_of
+      pub two-points_is : {w : Taken Point} {t : Answer Parsed} {l : Remembered} → q ≡ Ok w → t ≡ without (TwoPoints v.value w.value) w.next l → l ≡ remember k w.value → t ≡ parameters_at kept (shape_of K.two_points) s at
+      unfolding parameters_at fixed_at part_at tail_at look_of answer_at
       two-points_is {w} {t} {l} h i j =
           let both : l ≡ remember (remember kept v.value) w.value = j ∙ ap (λ (m : Remembered). remember m w.value) ek in
           rw (i, both, ← er, g, ← second, h)
@@ -193,11 +185,11 @@ pub ruleset fixeds = (one-integer_no, one-integer_is, two-integers_no, two-integ
 
 -- ---- kinds with a list
 
-pub list-of : {e j : Entry} → e ≡ j → list_of j ≡ list_of e
-list-of g = rw g
+pub is_list_of : {e j : Entry} → e ≡ j → list_of j ≡ list_of e
+is_list_of g = rw g
 
-abbrev with-list : Parameters → Run → ℕ → Remembered → Answer Parsed
-with-list ps w n kept = done (parsed_as ps w n kept)
+abbrev with-list : Parameters → CountedRun → Remembered → Answer Parsed
+with-list ps w kept = done (parsed_as ps w kept)
 
 -- the entries of a list behind fixed values are those of the list
 behind : (vs : List Value) (e : Entry) (kept : Remembered) (s : List ℕ) (l : List ℤ) (h : Answer CountedRun) → after_run e kept s h l ≡ after_look s (then h (λ h. done (record { values = vs; tail = list_of e; start = h.start; count = h.count; next = h.next; kept = kept }))) l
@@ -206,36 +198,36 @@ behind vs e kept s l (done h) = refl
 behind vs e kept s l (refused x p) = refl
 
 module _ (e : Entry) (kept : Remembered) (s : List ℕ) (at : ℕ) where
-  module _ {r : RunRead} (er : run_of r ≡ run_at e kept s at) where
-    pub list_no : {x : Refusal} {p : ℕ} → r ≡ RunRead.Refused x p → look_of (ParametersRead.Refused x p) ≡ parameters_at kept (list_shape e) s at
-    unfolding parameters_at fixed_at tail_at look_of run_of
+  module _ {r : Result CountedRun RefusedAt} (er : answer_at r ≡ run_at e kept s at) where
+    pub list_no : {x : RefusedAt} → r ≡ Err x → look_of (Err x) ≡ parameters_at kept (list_shape e) s at
+    unfolding parameters_at fixed_at tail_at look_of answer_at
     list_no g = rw (← er, g)
 
-    pub list_is : (ps : Parameters) {w : Run} {n : ℕ} {t : Answer Parsed} → r ≡ Counted w n → values_of ps ≡ [] → tail_of ps ≡ list_of e → t ≡ with-list ps w n kept → t ≡ parameters_at kept (list_shape e) s at
-    unfolding parameters_at fixed_at tail_at run_of
+    pub list_is : (ps : Parameters) {w : CountedRun} {t : Answer Parsed} → r ≡ Ok w → values_of ps ≡ [] → tail_of ps ≡ list_of e → t ≡ with-list ps w kept → t ≡ parameters_at kept (list_shape e) s at
+    unfolding parameters_at fixed_at tail_at answer_at
     list_is ps g i j k = rw (k, i, j, ← er, g)
 
-  module _ {r : IntegerRead} (er : integer_of r ≡ integer_at kept s at) where
-    pub number-no : {x : Refusal} {p : ℕ} → r ≡ IntegerRead.Refused x p → look_of (ParametersRead.Refused x p) ≡ parameters_at kept (integer_then_list_shape e) s at
-    unfolding parameters_at fixed_at part_at entry_at look_of integer_of
+  module _ {r : Result (Taken ℤ) RefusedAt} (er : answer_at r ≡ integer_at kept s at) where
+    pub number-no : {x : RefusedAt} → r ≡ Err x → look_of (Err x) ≡ parameters_at kept (integer_then_list_shape e) s at
+    unfolding parameters_at fixed_at part_at entry_at look_of answer_at
     number-no g = rw (← er, g)
 
-    pub number-kept : (l : List ℤ) {x : Refusal} {p : ℕ} → r ≡ IntegerRead.Refused x p → l ≡ after_look s (parameters_at kept (integer_then_list_shape e) s at) l
-    unfolding parameters_at fixed_at part_at entry_at after_look integer_of
+    pub number-kept : (l : List ℤ) {x : RefusedAt} → r ≡ Err x → l ≡ after_look s (parameters_at kept (integer_then_list_shape e) s at) l
+    unfolding parameters_at fixed_at part_at entry_at after_look answer_at
     number-kept l g = rw (← er, g)
 
-    module _ {v : TakenInteger} (g : r ≡ Integer v) where
+    module _ {v : Taken ℤ} (g : r ≡ Ok v) where
       pub integer-then_entries : (l : List ℤ) {o : List ℤ} → o ≡ after_run e kept s (run_at e kept s v.next) l → o ≡ after_look s (parameters_at kept (integer_then_list_shape e) s at) l
-      unfolding parameters_at fixed_at part_at entry_at tail_at integer_of
+      unfolding parameters_at fixed_at part_at entry_at tail_at answer_at
       integer-then_entries l j = j ∙ behind (number AnInteger v.value ∷ []) e kept s l (run_at e kept s v.next) ∙ rw (← er, g)
 
-      module _ {q : RunRead} (eq : run_of q ≡ run_at e kept s v.next) where
-        pub integer-then_no : {x : Refusal} {p₂ : ℕ} → q ≡ RunRead.Refused x p₂ → look_of (ParametersRead.Refused x p₂) ≡ parameters_at kept (integer_then_list_shape e) s at
-        unfolding parameters_at fixed_at part_at entry_at tail_at look_of integer_of run_of
+      module _ {q : Result CountedRun RefusedAt} (eq : answer_at q ≡ run_at e kept s v.next) where
+        pub integer-then_no : {x : RefusedAt} → q ≡ Err x → look_of (Err x) ≡ parameters_at kept (integer_then_list_shape e) s at
+        unfolding parameters_at fixed_at part_at entry_at tail_at look_of answer_at
         integer-then_no h = rw (← er, g, ← eq, h)
 
-        pub integer-then_is : (x : ℤ) (ps : Parameters) {w : Run} {m : ℕ} {t : Answer Parsed} → q ≡ Counted w m → values_of ps ≡ number AnInteger x ∷ [] → tail_of ps ≡ list_of e → x ≡ v.value → t ≡ with-list ps w m kept → t ≡ parameters_at kept (integer_then_list_shape e) s at
-        unfolding parameters_at fixed_at part_at entry_at tail_at integer_of run_of
+        pub integer-then_is : (x : ℤ) (ps : Parameters) {w : CountedRun} {t : Answer Parsed} → q ≡ Ok w → values_of ps ≡ number AnInteger x ∷ [] → tail_of ps ≡ list_of e → x ≡ v.value → t ≡ with-list ps w kept → t ≡ parameters_at kept (integer_then_list_shape e) s at
+        unfolding parameters_at fixed_at part_at entry_at tail_at answer_at
         integer-then_is x ps h i j k l = rw (l, i, j, k, ← er, g, ← eq, h)
 
   pub list_entries : (l : List ℤ) {o : List ℤ} → o ≡ after_run e kept s (run_at e kept s at) l → o ≡ after_look s (parameters_at kept (list_shape e) s at) l

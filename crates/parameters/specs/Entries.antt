@@ -2,18 +2,14 @@
 use Rattle.std.specs.Prelude.{ℕ, ◌+◌, Bool, ◌&&◌, List, leb, length, take, drop, ℤ, pos}
 use Rattle.std.proofs.lemmas.List.Edits.{sets}
 use Rattle.memory.specs.declared.Remembered.{Remembered}
-use Rattle.refusals.specs.Refusals.{number_of}
 use Rattle.refusals.specs.declared.Taken.{Taken}
 use Rattle.refusals.specs.Answers.{Answer, done, refused, then, pick, every, value_or, ends_after, all_after}
 use Rattle.wire.specs.Taking.{byte_at, is_itself}
 use Rattle.numbers.specs.Integers.{integer_at}
 use Rattle.numbers.specs.Counts.{count_at}
+use Rattle.parameters.specs.declared.CountedRun.{CountedRun}
 use Rattle.parameters.specs.declared.Entry.{Entry}
 use Rattle.parameters.specs.declared.Entry.TheVariants.{AnInteger, ACharacter}
-use Rattle.parameters.specs.declared.EntriesEnd.{EntriesEnd}
-use Rattle.parameters.specs.declared.EntriesEnd.TheVariants.{End}
-use Rattle.parameters.specs.declared.RunRead.{RunRead}
-use Rattle.parameters.specs.declared.RunRead.TheVariants.{Counted}
 
 abbrev pub as_entry : Taken ℕ → Answer (Taken ℤ)
 as_entry b = done (record { value = pos b.value; place = b.place; next = b.next })
@@ -30,21 +26,7 @@ entries_end e kept k s at = ends_after (entry_at e kept s) k at
 abbrev pub entry_values : Entry → Remembered → ℕ → List ℕ → ℕ → List ℤ
 entry_values e kept k s at = all_after (entry_at e kept s) k at
 
--- what the code's answers say
-unfoldable pub entries_end_of : EntriesEnd → Answer ℕ
-entries_end_of (End n) = done n
-entries_end_of (EntriesEnd.Refused e p) = refused (number_of e) p
-
 -- where the entries of a counted list start, how many they are, and where reading goes on
-pub record CountedRun : Type 0 where
-  pub start : ℕ
-  pub count : ℕ
-  pub next : ℕ
-
-unfoldable pub run_of : RunRead → Answer CountedRun
-run_of (Counted r n) = done (record { start = r.start; count = r.count; next = n })
-run_of (RunRead.Refused e p) = refused (number_of e) p
-
 unfoldable pub run_at : Entry → Remembered → List ℕ → ℕ → Answer CountedRun
 run_at e kept s at =
     then (count_at kept s at)

@@ -1,34 +1,24 @@
 -- Reading the parameters of a kind: part by part, each point from the one before it.
-use Rattle.std.specs.Prelude.{ℕ, List, [], ◌∷◌, ◌++◌, ℤ}
+use Rattle.std.specs.Prelude.{ℕ, List, [], ◌∷◌, ◌++◌, ℤ, Result, Ok, Err}
 use Rattle.memory.specs.declared.Remembered.{Remembered}
 use Rattle.memory.specs.Memory.{remember}
+use Rattle.refusals.specs.declared.RefusedAt.{RefusedAt}
 use Rattle.refusals.specs.Refusals.{number_of}
 use Rattle.refusals.specs.Answers.{Answer, done, refused, then}
 use Rattle.points.specs.Reading.{point_at}
 use Rattle.parameters.specs.declared.Entry.{Entry}
 use Rattle.parameters.specs.declared.Entry.TheVariants.{AnInteger}
+use Rattle.parameters.specs.declared.CountedRun.{CountedRun}
 use Rattle.parameters.specs.declared.Parameters.{Parameters}
-use Rattle.parameters.specs.declared.Run.{Run}
-use Rattle.parameters.specs.declared.ParametersRead.{ParametersRead}
-use Rattle.parameters.specs.declared.ParametersRead.TheVariants.{Whole}
-use Rattle.parameters.specs.declared.TwoEntriesRead.{TwoEntriesRead}
-use Rattle.parameters.specs.declared.TwoEntriesRead.TheVariants.{Both}
-use Rattle.parameters.specs.Entries.{entry_at, entry_values, CountedRun, run_at, handed}
+use Rattle.parameters.specs.declared.TakenParameters.{TakenParameters}
+use Rattle.parameters.specs.declared.TwoEntries.{TwoEntries}
+use Rattle.parameters.specs.Entries.{entry_at, entry_values, run_at, handed}
 use Rattle.parameters.specs.Shapes.{Tailed, no_list, list_of, Part, single, real, point, Shape, Value, number, scaled, place, values_of, tail_of}
-
-pub record TwoEntries : Type 0 where
-  pub one : ℤ
-  pub two : ℤ
-  pub next : ℕ
 
 -- two entries, one after the other
 unfoldable pub two_entries_at : Entry → Remembered → List ℕ → ℕ → Answer TwoEntries
 two_entries_at e kept s at =
     then (entry_at e kept s at) (λ a. then (entry_at e kept s a.next) (λ b. done (record { one = a.value; two = b.value; next = b.next })))
-
-unfoldable pub two_entries_of : TwoEntriesRead → Answer TwoEntries
-two_entries_of (Both a b n) = done (record { one = a; two = b; next = n })
-two_entries_of (TwoEntriesRead.Refused e p) = refused (number_of e) p
 
 -- what was read so far: its values, where reading goes on, and what is then remembered
 pub record Fixed : Type 0 where
@@ -74,12 +64,12 @@ parameters_at kept shape s at =
     then (fixed_at kept shape.fixed s at) (λ f. then (tail_at f.kept shape.tail s f.next) (λ h. with f shape.tail h))
 
 -- what the answer says
-abbrev pub parsed_as : Parameters → Run → ℕ → Remembered → Parsed
-parsed_as ps run next kept = record { values = values_of ps; tail = tail_of ps; start = run.start; count = run.count; next = next; kept = kept }
+abbrev pub parsed_as : Parameters → CountedRun → Remembered → Parsed
+parsed_as ps run kept = record { values = values_of ps; tail = tail_of ps; start = run.start; count = run.count; next = run.next; kept = kept }
 
-unfoldable pub look_of : ParametersRead → Answer Parsed
-look_of (Whole t) = done (parsed_as t.parameters t.run t.next t.kept)
-look_of (ParametersRead.Refused e p) = refused (number_of e) p
+unfoldable pub look_of : Result TakenParameters RefusedAt → Answer Parsed
+look_of (Ok t) = done (parsed_as t.parameters t.run t.kept)
+look_of (Err e) = refused (number_of e.refusal) e.place
 
 -- ---- the entries, and the lent list behind them
 

@@ -1,5 +1,5 @@
 -- The kinds of parameters: fixed parts, and perhaps a string or an array behind them.
-use Rattle.std.specs.Prelude.{List, [], ◌∷◌, ℤ}
+use Rattle.std.specs.Prelude.{List, [], ◌∷◌, ℤ, Option, Some, None}
 use Rattle.memory.specs.declared.Point.{Point}
 use Rattle.table.specs.Table.{ParameterKind}
 use Rattle.table.specs.Table as K
@@ -7,10 +7,6 @@ use Rattle.parameters.specs.declared.Entry.{Entry}
 use Rattle.parameters.specs.declared.Entry.TheVariants.{AnInteger, ACharacter}
 use Rattle.parameters.specs.declared.Parameters.{Parameters}
 use Rattle.parameters.specs.declared.Parameters.TheVariants.{OneInteger, TwoIntegers, ThreeIntegers, OnePoint, TwoPoints, AReal, AString, AnArray, IntegerThenArray, IntegerThenString, TwoCharacters}
-use Rattle.parameters.specs.declared.Tail.{Tail}
-use Rattle.parameters.specs.declared.Tail.TheVariants.{NoList, ListOf}
-use Rattle.parameters.specs.declared.LastPoint.{LastPoint}
-use Rattle.parameters.specs.declared.LastPoint.TheVariants.{NoPoint, Last}
 
 pub data Part : Type 0 where
   single : Entry → Part
@@ -98,10 +94,10 @@ last_point vs = last_from no_point vs
 
 -- ---- what the answers say
 
-abbrev pub tail_meant : Tail → Tailed
-tail_meant NoList = no_list
-tail_meant (ListOf e) = list_of e
+abbrev pub tail_meant : Option Entry → Tailed
+tail_meant None = no_list
+tail_meant (Some e) = list_of e
 
-abbrev pub point_meant : LastPoint → Pointed
-point_meant NoPoint = no_point
-point_meant (Last p) = last p
+abbrev pub point_meant : Option Point → Pointed
+point_meant None = no_point
+point_meant (Some p) = last p

@@ -3,25 +3,21 @@
 // no room for them entries are only passed over.
 #![tactic(auto)]
 
-ghost use Rattle.std.specs.Prelude.{◌≡◌, [], ◌∷◌, map, ◌≤◌, length, take, pos};
+ghost use Rattle.std.specs.Prelude.{◌≡◌, [], ◌∷◌, map, ◌≤◌, length, take, pos, Ok};
 ghost use Rattle.std.proofs.lemmas.List.Edits.{sets};
-ghost use Rattle.refusals.specs.Answers.{done};
+ghost use Rattle.refusals.specs.Answers.{done, answer_at};
 ghost use Rattle.table.specs.Table.{one_integer, two_integers, three_integers, one_point, two_points, a_real, two_characters, kind_meant};
-ghost use Rattle.numbers.specs.Integers.{integer_of};
-ghost use Rattle.parameters.specs.Entries.{entry_at, entry_values, entries_end_of, entries_end, list_behind, run_of, run_at, after_run, characters_ahead};
+ghost use Rattle.parameters.specs.Entries.{entry_at, entry_values, entries_end, list_behind, run_at, after_run, characters_ahead};
 ghost use Rattle.parameters.specs.Shapes.{shape_of, list_shape, integer_then_list_shape, list_of, number, values_of, tail_of, last_point, tail_meant, point_meant};
 ghost use Rattle.parameters.specs.Numbers.{Holds};
-ghost use Rattle.parameters.specs.Looking.{two_entries_of, two_entries_at, parsed_as, look_of, parameters_at, after_look};
+ghost use Rattle.parameters.specs.Looking.{two_entries_at, parsed_as, look_of, parameters_at, after_look};
 
 use memory::{Point, Remembered};
-use numbers::{CountRead, IntegerRead, TakenInteger};
-use points::PointRead;
-use refusals::Refusal;
+use refusals::{Refusal, RefusedAt, Taken};
 use table::Kind;
-use wire::ByteRead;
 
 // What one entry is.
-#[derive(Clone, Copy)]
+#[derive(Clone, Copy, PartialEq, Eq)]
 pub enum Entry {
     AnInteger,
     ACharacter,
@@ -50,20 +46,6 @@ pub enum Parameters {
     TwoCharacters(i32, i32),
 }
 
-// Whether entries of a lent list go with the parameters, and what they are.
-#[derive(Clone, Copy)]
-pub enum Tail {
-    NoList,
-    ListOf(Entry),
-}
-
-// The point that the parameters end with, if they have any.
-#[derive(Clone, Copy)]
-pub enum LastPoint {
-    NoPoint,
-    Last(Point),
-}
-
 // The fixed parameters as numbers, a point as x and y, and 0 in what is left. Two points have the most, four.
 #[derive(Clone, Copy)]
 pub struct Numbers {
@@ -71,70 +53,48 @@ pub struct Numbers {
     pub len: usize,
 }
 
-// Where the entries of a string or an array start, and how many they are.
+// Where the entries of a string or an array start, how many they are, and where reading goes on.
 #[derive(Clone, Copy)]
-pub struct Run {
+pub struct CountedRun {
     pub start: usize,
     pub count: usize,
+    pub next: usize,
 }
 
-// Parameters that were read, the run of their entries, where reading goes on, and what is then remembered.
+// Parameters that were read, the run of their entries, and what is then remembered.
 #[derive(Clone, Copy)]
 pub struct TakenParameters {
     pub parameters: Parameters,
-    pub run: Run,
-    pub next: usize,
+    pub run: CountedRun,
     pub kept: Remembered,
 }
 
+// Two integers or characters, and where reading goes on.
 #[derive(Clone, Copy)]
-pub enum ParametersRead {
-    Whole(TakenParameters),
-    // the refusal and its place
-    Refused(Refusal, usize),
-}
-
-#[derive(Clone, Copy)]
-enum EntriesEnd {
-    End(usize),
-    Refused(Refusal, usize),
-}
-
-#[derive(Clone, Copy)]
-enum RunRead {
-    // the run, and where reading goes on
-    Counted(Run, usize),
-    Refused(Refusal, usize),
-}
-
-#[derive(Clone, Copy)]
-enum TwoEntriesRead {
-    // two integers or characters, and where reading goes on
-    Both(i32, i32, usize),
-    Refused(Refusal, usize),
+struct TwoEntries {
+    one: i32,
+    two: i32,
+    next: usize,
 }
 
 // ---- entries
 
-fn read_character(kept: Remembered, s: &[u8], at: usize) -> IntegerRead
-    ensures { integer_of result ≡ entry_at Entry.ACharacter kept s.now at }
+#[tactic(auto, unfolding(refusals::specs::Answers::answer_at, crate::specs::Entries::entry_at))]
+fn read_character(kept: Remembered, s: &[u8], at: usize) -> Result<Taken<i32>, RefusedAt>
+    ensures { answer_at result ≡ entry_at Entry.ACharacter kept s.now at }
 {
-    match wire::take(kept, s, at) {
-        ByteRead::Byte(byte) => {
-            let entry = TakenInteger {
-                value: characters::entry_of(byte.value),
-                place: byte.place,
-                next: byte.next,
-            };
-            IntegerRead::Integer(entry)
-        }
-        ByteRead::Refused(e, p) => IntegerRead::Refused(e, p),
-    }
+    let byte = wire::take(kept, s, at)?;
+    Ok(Taken {
+        value: characters::entry_of(byte.value),
+        place: byte.place,
+        next: byte.next,
+    })
 }
 
 // An integer, or a character as a number.
-fn read_entry(kept: Remembered, entry: Entry, s: &[u8], at: usize) -> IntegerRead
-    ensures { integer_of result ≡ entry_at entry kept s.now at }
+#[tactic(auto, unfolding(crate::specs::Entries::entry_at))]
+fn read_entry(kept: Remembered, entry: Entry, s: &[u8], at: usize) -> Result<Taken<i32>, RefusedAt>
+    ensures { answer_at result ≡ entry_at entry kept s.now at }
 {
     match entry {
         Entry::AnInteger => numbers::read_integer(kept, s, at),
@@ -143,26 +103,25 @@ fn read_entry(kept: Remembered, entry: Entry, s: &[u8], at: usize) -> IntegerRea
 }
 
 // So many entries from `at` on: where they end, or the first that is refused.
-fn pass_entries(kept: Remembered, entry: Entry, count: usize, s: &[u8], at: usize) -> EntriesEnd
-    ensures { entries_end_of result ≡ entries_end entry kept count s.now at }
+#[tactic(auto, using(crate::proofs::Entering::passings))]
+fn pass_entries(
+    kept: Remembered,
+    entry: Entry,
+    count: usize,
+    s: &[u8],
+    at: usize,
+) -> Result<usize, RefusedAt>
+    ensures { answer_at result ≡ entries_end entry kept count s.now at }
 {
-    let mut i = 0;
     let mut pos = at;
-    while i < count {
-        match read_entry(kept, entry, s, pos) {
-            IntegerRead::Integer(taken) => {
-                pos = taken.next;
-                i = i + 1;
-            }
-            IntegerRead::Refused(e, p) => {
-                return EntriesEnd::Refused(e, p);
-            }
-        }
+    for _ in 0..count {
+        pos = read_entry(kept, entry, s, pos)?.next;
     }
-    EntriesEnd::End(pos)
+    Ok(pos)
 }
 
 // The same, with their values into the front of the list.
+#[tactic(auto, using(crate::proofs::Entering::readings))]
 fn read_entries(
     kept: Remembered,
     entry: Entry,
@@ -170,42 +129,30 @@ fn read_entries(
     s: &[u8],
     at: usize,
     list: &mut [i32; 256],
-) -> EntriesEnd
+) -> Result<usize, RefusedAt>
     requires { count ≤ 256 }
-    ensures { (entries_end_of result ≡ entries_end entry kept count s.now at) × (list.new ≡ sets list.old 0 (entry_values entry kept count s.now at)) }
+    ensures { (answer_at result ≡ entries_end entry kept count s.now at) × (list.new ≡ sets list.old 0 (entry_values entry kept count s.now at)) }
 {
-    let mut i = 0;
     let mut pos = at;
-    while i < count {
-        match read_entry(kept, entry, s, pos) {
-            IntegerRead::Integer(taken) => {
-                let v = taken.value;
-                list[i] = v;
-                pos = taken.next;
-                i = i + 1;
-            }
-            IntegerRead::Refused(e, p) => {
-                return EntriesEnd::Refused(e, p);
-            }
-        }
+    for i in 0..count {
+        let taken = read_entry(kept, entry, s, pos)?;
+        list[i] = taken.value;
+        pos = taken.next;
     }
-    EntriesEnd::End(pos)
+    Ok(pos)
 }
 
 // The first `count` entries into the front of the list.
+#[tactic(auto, using(crate::proofs::Entering::front_handed))]
 fn hand_over(entries: &[i32; 256], count: usize, list: &mut [i32])
     requires { (count ≤ 256) × ((count ≤ length entries.now) × (count ≤ length list.old)) }
     ensures { list.new ≡ sets list.old 0 (take count entries.now) }
 {
-    let mut i = 0;
-    while i < count {
-        let v = entries[i];
-        list[i] = v;
-        i = i + 1;
-    }
+    list[..count].copy_from_slice(&entries[..count]);
 }
 
 // So many entries from `at` on, which go to the list if they are whole.
+#[tactic(auto, using(crate::proofs::Entering::handed_over))]
 fn hand_entries(
     kept: Remembered,
     entry: Entry,
@@ -213,34 +160,29 @@ fn hand_entries(
     s: &[u8],
     at: usize,
     list: &mut [i32],
-) -> EntriesEnd
+) -> Result<usize, RefusedAt>
     requires { (count ≤ 256) × (count ≤ length list.old) }
-    ensures { (entries_end_of result ≡ entries_end entry kept count s.now at) × (list.new ≡ list_behind entry kept count s.now at list.old) }
+    ensures { (answer_at result ≡ entries_end entry kept count s.now at) × (list.new ≡ list_behind entry kept count s.now at list.old) }
 {
     let mut entries = [0; 256];
-    match read_entries(kept, entry, count, s, at, &mut entries) {
-        EntriesEnd::End(n) => {
-            hand_over(&entries, count, list);
-            EntriesEnd::End(n)
-        }
-        EntriesEnd::Refused(e, p) => EntriesEnd::Refused(e, p),
-    }
+    let end = read_entries(kept, entry, count, s, at, &mut entries)?;
+    hand_over(&entries, count, list);
+    Ok(end)
 }
 
 // Bytes that are taken as they stand, as entries into the front of the list.
+#[tactic(auto, using(crate::proofs::Entering::layings))]
 fn lay_characters(w: &[u8], list: &mut [i32])
     requires { length w.now ≤ length list.old }
     ensures { list.new ≡ sets list.old 0 (map pos w.now) }
 {
-    let mut i = 0;
-    while i < w.len() {
-        let b = w[i];
-        list[i] = characters::entry_of(b);
-        i = i + 1;
+    for i in 0..w.len() {
+        list[i] = characters::entry_of(w[i]);
     }
 }
 
 // Whether so many characters stand from `at` on, each of which is taken as it stands.
+#[tactic(auto, using(crate::proofs::Entering::aheads))]
 fn characters_ahead(kept: Remembered, count: usize, s: &[u8], at: usize) -> bool
     ensures { result ≡ characters_ahead kept count s.now at }
 {
@@ -257,25 +199,27 @@ fn characters_ahead(kept: Remembered, count: usize, s: &[u8], at: usize) -> bool
 }
 
 // So many characters, straight from their bytes where each is taken as it stands.
+#[tactic(auto, using(crate::proofs::Entering::strings, crate::proofs::Entering::characters_few))]
 fn hand_characters(
     kept: Remembered,
     count: usize,
     s: &[u8],
     at: usize,
     list: &mut [i32],
-) -> EntriesEnd
+) -> Result<usize, RefusedAt>
     requires { (count ≤ 256) × (count ≤ length list.old) }
-    ensures { (entries_end_of result ≡ entries_end Entry.ACharacter kept count s.now at) × (list.new ≡ list_behind Entry.ACharacter kept count s.now at list.old) }
+    ensures { (answer_at result ≡ entries_end Entry.ACharacter kept count s.now at) × (list.new ≡ list_behind Entry.ACharacter kept count s.now at list.old) }
 {
     if characters_ahead(kept, count, s, at) {
         let end = at + count;
         lay_characters(&s[at..end], list);
-        return EntriesEnd::End(end);
+        return Ok(end);
     }
     hand_entries(kept, Entry::ACharacter, count, s, at, list)
 }
 
 // So many entries, which are only passed over where the list has no room for them.
+#[tactic(auto, using(crate::proofs::Entering::handed_over, crate::proofs::Entering::kinds))]
 fn entries_into(
     kept: Remembered,
     entry: Entry,
@@ -283,9 +227,9 @@ fn entries_into(
     s: &[u8],
     at: usize,
     list: &mut [i32],
-) -> EntriesEnd
+) -> Result<usize, RefusedAt>
     requires { count ≤ 256 }
-    ensures { (entries_end_of result ≡ entries_end entry kept count s.now at) × (list.new ≡ list_behind entry kept count s.now at list.old) }
+    ensures { (answer_at result ≡ entries_end entry kept count s.now at) × (list.new ≡ list_behind entry kept count s.now at list.old) }
 {
     if count > list.len() {
         return pass_entries(kept, entry, count, s, at);
@@ -297,158 +241,126 @@ fn entries_into(
 }
 
 // A count and that many entries: a string or an array.
-fn read_run(kept: Remembered, entry: Entry, s: &[u8], at: usize, list: &mut [i32]) -> RunRead
-    ensures { (run_of result ≡ run_at entry kept s.now at) × (list.new ≡ after_run entry kept s.now (run_at entry kept s.now at) list.old) }
+#[tactic(auto, using(crate::proofs::Entering::count_few), unfolding(refusals::specs::Answers::answer_at, crate::specs::Entries::run_at, crate::specs::Entries::after_run, crate::specs::Entries::list_behind, refusals::specs::Answers::value_or))]
+fn read_run(
+    kept: Remembered,
+    entry: Entry,
+    s: &[u8],
+    at: usize,
+    list: &mut [i32],
+) -> Result<CountedRun, RefusedAt>
+    ensures { (answer_at result ≡ run_at entry kept s.now at) × (list.new ≡ after_run entry kept s.now (run_at entry kept s.now at) list.old) }
 {
-    match numbers::read_count(kept, s, at) {
-        CountRead::Count(taken) => {
-            let count = taken.value;
-            let start = taken.next;
-            match entries_into(kept, entry, count, s, start, list) {
-                EntriesEnd::End(n) => {
-                    let run = Run {
-                        start: start,
-                        count: count,
-                    };
-                    RunRead::Counted(run, n)
-                }
-                EntriesEnd::Refused(e, p) => RunRead::Refused(e, p),
-            }
-        }
-        CountRead::Refused(e, p) => RunRead::Refused(e, p),
-    }
+    let count = numbers::read_count(kept, s, at)?;
+    let next = entries_into(kept, entry, count.value, s, count.next, list)?;
+    Ok(CountedRun {
+        start: count.next,
+        count: count.value,
+        next,
+    })
 }
 
 // ---- each kind
 
-fn whole(parameters: Parameters, run: Run, next: usize, kept: Remembered) -> ParametersRead
-    ensures { look_of result ≡ done (parsed_as parameters run next kept) }
-{
-    let taken = TakenParameters {
-        parameters: parameters,
-        run: run,
-        next: next,
-        kept: kept,
-    };
-    ParametersRead::Whole(taken)
-}
-
 // What was read of a kind without a list.
-fn without_list(parameters: Parameters, next: usize, kept: Remembered) -> ParametersRead
-    ensures { look_of result ≡ done (parsed_as parameters (record { start = 0; count = 0 }) next kept) }
+#[tactic(auto, unfolding(crate::specs::Looking::look_of))]
+fn without_list(parameters: Parameters, next: usize, kept: Remembered) -> TakenParameters
+    ensures { look_of (Ok result) ≡ done (parsed_as parameters (record { start = 0; count = 0; next = next }) kept) }
 {
-    let run = Run { start: 0, count: 0 };
-    whole(parameters, run, next, kept)
-}
-
-fn two_entries(kept: Remembered, entry: Entry, s: &[u8], at: usize) -> TwoEntriesRead
-    ensures { two_entries_of result ≡ two_entries_at entry kept s.now at }
-{
-    match read_entry(kept, entry, s, at) {
-        IntegerRead::Integer(a) => match read_entry(kept, entry, s, a.next) {
-            IntegerRead::Integer(b) => TwoEntriesRead::Both(a.value, b.value, b.next),
-            IntegerRead::Refused(e, p) => TwoEntriesRead::Refused(e, p),
+    TakenParameters {
+        parameters,
+        run: CountedRun {
+            start: 0,
+            count: 0,
+            next,
         },
-        IntegerRead::Refused(e, p) => TwoEntriesRead::Refused(e, p),
+        kept,
     }
 }
 
-fn look_one_integer(kept: Remembered, s: &[u8], at: usize) -> ParametersRead
+#[tactic(auto, unfolding(refusals::specs::Answers::answer_at, crate::specs::Looking::two_entries_at))]
+fn two_entries(kept: Remembered, entry: Entry, s: &[u8], at: usize) -> Result<TwoEntries, RefusedAt>
+    ensures { answer_at result ≡ two_entries_at entry kept s.now at }
+{
+    let a = read_entry(kept, entry, s, at)?;
+    let b = read_entry(kept, entry, s, a.next)?;
+    Ok(TwoEntries {
+        one: a.value,
+        two: b.value,
+        next: b.next,
+    })
+}
+
+#[tactic(auto, unfolding(refusals::specs::Answers::answer_at, crate::specs::Looking::look_of, crate::specs::Looking::parameters_at, crate::specs::Looking::fixed_at, crate::specs::Looking::part_at, crate::specs::Looking::tail_at, crate::specs::Entries::entry_at))]
+fn look_one_integer(kept: Remembered, s: &[u8], at: usize) -> Result<TakenParameters, RefusedAt>
     ensures { look_of result ≡ parameters_at kept (shape_of one_integer) s.now at }
 {
-    match numbers::read_integer(kept, s, at) {
-        IntegerRead::Integer(a) => without_list(Parameters::OneInteger(a.value), a.next, kept),
-        IntegerRead::Refused(e, p) => ParametersRead::Refused(e, p),
-    }
+    let a = numbers::read_integer(kept, s, at)?;
+    Ok(without_list(Parameters::OneInteger(a.value), a.next, kept))
 }
 
-fn look_two_integers(kept: Remembered, s: &[u8], at: usize) -> ParametersRead
+#[tactic(auto, unfolding(refusals::specs::Answers::answer_at, crate::specs::Looking::look_of, crate::specs::Looking::parameters_at, crate::specs::Looking::fixed_at, crate::specs::Looking::part_at, crate::specs::Looking::tail_at, crate::specs::Looking::two_entries_at))]
+fn look_two_integers(kept: Remembered, s: &[u8], at: usize) -> Result<TakenParameters, RefusedAt>
     ensures { look_of result ≡ parameters_at kept (shape_of two_integers) s.now at }
 {
-    match two_entries(kept, Entry::AnInteger, s, at) {
-        TwoEntriesRead::Both(a, b, n) => without_list(Parameters::TwoIntegers(a, b), n, kept),
-        TwoEntriesRead::Refused(e, p) => ParametersRead::Refused(e, p),
-    }
+    let read = two_entries(kept, Entry::AnInteger, s, at)?;
+    Ok(without_list(Parameters::TwoIntegers(read.one, read.two), read.next, kept))
 }
 
-fn look_real(kept: Remembered, s: &[u8], at: usize) -> ParametersRead
+#[tactic(auto, unfolding(refusals::specs::Answers::answer_at, crate::specs::Looking::look_of, crate::specs::Looking::parameters_at, crate::specs::Looking::fixed_at, crate::specs::Looking::part_at, crate::specs::Looking::tail_at))]
+fn look_real(kept: Remembered, s: &[u8], at: usize) -> Result<TakenParameters, RefusedAt>
     ensures { look_of result ≡ parameters_at kept (shape_of a_real) s.now at }
 {
-    match two_entries(kept, Entry::AnInteger, s, at) {
-        TwoEntriesRead::Both(a, b, n) => {
-            let real = Real {
-                mantissa: a,
-                exponent: b,
-            };
-            without_list(Parameters::AReal(real), n, kept)
-        }
-        TwoEntriesRead::Refused(e, p) => ParametersRead::Refused(e, p),
-    }
+    let read = two_entries(kept, Entry::AnInteger, s, at)?;
+    let real = Real {
+        mantissa: read.one,
+        exponent: read.two,
+    };
+    Ok(without_list(Parameters::AReal(real), read.next, kept))
 }
 
-fn look_two_characters(kept: Remembered, s: &[u8], at: usize) -> ParametersRead
+#[tactic(auto, unfolding(refusals::specs::Answers::answer_at, crate::specs::Looking::look_of, crate::specs::Looking::parameters_at, crate::specs::Looking::fixed_at, crate::specs::Looking::part_at, crate::specs::Looking::tail_at, crate::specs::Looking::two_entries_at))]
+fn look_two_characters(kept: Remembered, s: &[u8], at: usize) -> Result<TakenParameters, RefusedAt>
     ensures { look_of result ≡ parameters_at kept (shape_of two_characters) s.now at }
 {
-    match two_entries(kept, Entry::ACharacter, s, at) {
-        TwoEntriesRead::Both(a, b, n) => without_list(Parameters::TwoCharacters(a, b), n, kept),
-        TwoEntriesRead::Refused(e, p) => ParametersRead::Refused(e, p),
-    }
+    let read = two_entries(kept, Entry::ACharacter, s, at)?;
+    Ok(without_list(
+        Parameters::TwoCharacters(read.one, read.two),
+        read.next,
+        kept,
+    ))
 }
 
-fn look_three_integers(kept: Remembered, s: &[u8], at: usize) -> ParametersRead
+#[tactic(auto, unfolding(refusals::specs::Answers::answer_at, crate::specs::Looking::look_of, crate::specs::Looking::parameters_at, crate::specs::Looking::fixed_at, crate::specs::Looking::part_at, crate::specs::Looking::tail_at, crate::specs::Looking::two_entries_at, crate::specs::Entries::entry_at))]
+fn look_three_integers(kept: Remembered, s: &[u8], at: usize) -> Result<TakenParameters, RefusedAt>
     ensures { look_of result ≡ parameters_at kept (shape_of three_integers) s.now at }
 {
-    match two_entries(kept, Entry::AnInteger, s, at) {
-        TwoEntriesRead::Both(a, b, n) => match numbers::read_integer(kept, s, n) {
-            IntegerRead::Integer(d) => without_list(
-                Parameters::ThreeIntegers(a, b, d.value),
-                d.next,
-                kept,
-            ),
-            IntegerRead::Refused(e, p) => ParametersRead::Refused(e, p),
-        },
-        TwoEntriesRead::Refused(e, p) => ParametersRead::Refused(e, p),
-    }
+    let read = two_entries(kept, Entry::AnInteger, s, at)?;
+    let third = numbers::read_integer(kept, s, read.next)?;
+    let parameters = Parameters::ThreeIntegers(read.one, read.two, third.value);
+    Ok(without_list(parameters, third.next, kept))
 }
 
-fn look_one_point(kept: Remembered, s: &[u8], at: usize) -> ParametersRead
+#[tactic(auto, unfolding(refusals::specs::Answers::answer_at, crate::specs::Looking::look_of, crate::specs::Looking::parameters_at, crate::specs::Looking::fixed_at, crate::specs::Looking::part_at, crate::specs::Looking::tail_at))]
+fn look_one_point(kept: Remembered, s: &[u8], at: usize) -> Result<TakenParameters, RefusedAt>
     ensures { look_of result ≡ parameters_at kept (shape_of one_point) s.now at }
 {
-    match points::read_point(kept, s, at) {
-        PointRead::At(taken) => {
-            let point = taken.value;
-            without_list(
-                Parameters::OnePoint(point),
-                taken.next,
-                memory::with_point(kept, point),
-            )
-        }
-        PointRead::Refused(e, p) => ParametersRead::Refused(e, p),
-    }
+    let read = points::read_point(kept, s, at)?;
+    let behind = memory::with_point(kept, read.value);
+    Ok(without_list(Parameters::OnePoint(read.value), read.next, behind))
 }
 
 // The second point follows from the first.
-fn look_two_points(kept: Remembered, s: &[u8], at: usize) -> ParametersRead
+#[tactic(auto, unfolding(refusals::specs::Answers::answer_at, crate::specs::Looking::look_of, crate::specs::Looking::parameters_at, crate::specs::Looking::fixed_at, crate::specs::Looking::part_at, crate::specs::Looking::tail_at))]
+fn look_two_points(kept: Remembered, s: &[u8], at: usize) -> Result<TakenParameters, RefusedAt>
     ensures { look_of result ≡ parameters_at kept (shape_of two_points) s.now at }
 {
-    match points::read_point(kept, s, at) {
-        PointRead::At(first) => {
-            let one = first.value;
-            let then = memory::with_point(kept, one);
-            match points::read_point(then, s, first.next) {
-                PointRead::At(second) => {
-                    let two = second.value;
-                    without_list(
-                        Parameters::TwoPoints(one, two),
-                        second.next,
-                        memory::with_point(then, two),
-                    )
-                }
-                PointRead::Refused(e, p) => ParametersRead::Refused(e, p),
-            }
-        }
-        PointRead::Refused(e, p) => ParametersRead::Refused(e, p),
-    }
+    let first = points::read_point(kept, s, at)?;
+    let then = memory::with_point(kept, first.value);
+    let second = points::read_point(then, s, first.next)?;
+    let parameters = Parameters::TwoPoints(first.value, second.value);
+    let behind = memory::with_point(then, second.value);
+    Ok(without_list(parameters, second.next, behind))
 }
 
 fn only_list(entry: Entry) -> Parameters
@@ -470,49 +382,54 @@ fn integer_then_list(a: i32, entry: Entry) -> Parameters
 }
 
 // The parameters that are a string or an array alone.
+#[tactic(auto, unfolding(refusals::specs::Answers::answer_at, crate::specs::Looking::look_of, crate::specs::Looking::parameters_at, crate::specs::Looking::fixed_at, crate::specs::Looking::part_at, crate::specs::Looking::tail_at, crate::specs::Looking::after_look, crate::specs::Entries::after_run))]
 fn look_list(
     kept: Remembered,
     entry: Entry,
     s: &[u8],
     at: usize,
     list: &mut [i32],
-) -> ParametersRead
+) -> Result<TakenParameters, RefusedAt>
     ensures { (look_of result ≡ parameters_at kept (list_shape entry) s.now at) × (list.new ≡ after_look s.now (parameters_at kept (list_shape entry) s.now at) list.old) }
 {
-    match read_run(kept, entry, s, at, list) {
-        RunRead::Counted(run, n) => whole(only_list(entry), run, n, kept),
-        RunRead::Refused(e, p) => ParametersRead::Refused(e, p),
-    }
+    let run = read_run(kept, entry, s, at, list)?;
+    Ok(TakenParameters {
+        parameters: only_list(entry),
+        run,
+        kept,
+    })
 }
 
 // An integer, then a string or an array.
+#[tactic(auto, unfolding(refusals::specs::Answers::answer_at, crate::specs::Looking::look_of, crate::specs::Looking::parameters_at, crate::specs::Looking::fixed_at, crate::specs::Looking::part_at, crate::specs::Looking::tail_at, crate::specs::Looking::after_look, crate::specs::Entries::after_run, crate::specs::Entries::entry_at))]
 fn look_integer_then_list(
     kept: Remembered,
     entry: Entry,
     s: &[u8],
     at: usize,
     list: &mut [i32],
-) -> ParametersRead
+) -> Result<TakenParameters, RefusedAt>
     ensures { (look_of result ≡ parameters_at kept (integer_then_list_shape entry) s.now at) × (list.new ≡ after_look s.now (parameters_at kept (integer_then_list_shape entry) s.now at) list.old) }
 {
-    match numbers::read_integer(kept, s, at) {
-        IntegerRead::Integer(a) => match read_run(kept, entry, s, a.next, list) {
-            RunRead::Counted(run, m) => whole(integer_then_list(a.value, entry), run, m, kept),
-            RunRead::Refused(e, p) => ParametersRead::Refused(e, p),
-        },
-        IntegerRead::Refused(e, p) => ParametersRead::Refused(e, p),
-    }
+    let a = numbers::read_integer(kept, s, at)?;
+    let run = read_run(kept, entry, s, a.next, list)?;
+    Ok(TakenParameters {
+        parameters: integer_then_list(a.value, entry),
+        run,
+        kept,
+    })
 }
 
 // The parameters of a command of this kind, from `at` on. The entries of a string or an array go to the list if all is good and
 // it has room for all of them.
+#[tactic(auto, using(crate::proofs::Looks::of_kinds))]
 pub fn look_at(
     kept: Remembered,
     kind: Kind,
     s: &[u8],
     at: usize,
     list: &mut [i32],
-) -> ParametersRead
+) -> Result<TakenParameters, RefusedAt>
     ensures { (look_of result ≡ parameters_at kept (shape_of (kind_meant kind)) s.now at) × (list.new ≡ after_look s.now (parameters_at kept (shape_of (kind_meant kind)) s.now at) list.old) }
 {
     match kind {
@@ -532,48 +449,35 @@ pub fn look_at(
 
 // ---- what the parameters hold
 
-// Whether entries of a list go with the parameters.
-pub fn tail_of(parameters: Parameters) -> Tail
+// What the entries are that go with the parameters in a lent list, if any do.
+pub fn tail_of(parameters: Parameters) -> Option<Entry>
     ensures { tail_meant result ≡ tail_of parameters }
 {
     match parameters {
-        Parameters::OneInteger(_) => Tail::NoList,
-        Parameters::TwoIntegers(_, _) => Tail::NoList,
-        Parameters::ThreeIntegers(_, _, _) => Tail::NoList,
-        Parameters::OnePoint(_) => Tail::NoList,
-        Parameters::TwoPoints(_, _) => Tail::NoList,
-        Parameters::AReal(_) => Tail::NoList,
-        Parameters::AString => Tail::ListOf(Entry::ACharacter),
-        Parameters::AnArray => Tail::ListOf(Entry::AnInteger),
-        Parameters::IntegerThenArray(_) => Tail::ListOf(Entry::AnInteger),
-        Parameters::IntegerThenString(_) => Tail::ListOf(Entry::ACharacter),
-        Parameters::TwoCharacters(_, _) => Tail::NoList,
+        Parameters::AString | Parameters::IntegerThenString(_) => Some(Entry::ACharacter),
+        Parameters::AnArray | Parameters::IntegerThenArray(_) => Some(Entry::AnInteger),
+        _ => None,
     }
 }
 
-// The point that is remembered behind the parameters.
-pub fn last_point(parameters: Parameters) -> LastPoint
+// The point that the parameters end with, if they have any.
+pub fn last_point(parameters: Parameters) -> Option<Point>
     ensures { point_meant result ≡ last_point (values_of parameters) }
 {
     match parameters {
-        Parameters::OnePoint(p) => LastPoint::Last(p),
-        Parameters::TwoPoints(_, q) => LastPoint::Last(q),
-        Parameters::OneInteger(_) => LastPoint::NoPoint,
-        Parameters::TwoIntegers(_, _) => LastPoint::NoPoint,
-        Parameters::ThreeIntegers(_, _, _) => LastPoint::NoPoint,
-        Parameters::AReal(_) => LastPoint::NoPoint,
-        Parameters::AString => LastPoint::NoPoint,
-        Parameters::AnArray => LastPoint::NoPoint,
-        Parameters::IntegerThenArray(_) => LastPoint::NoPoint,
-        Parameters::IntegerThenString(_) => LastPoint::NoPoint,
-        Parameters::TwoCharacters(_, _) => LastPoint::NoPoint,
+        Parameters::OnePoint(p) | Parameters::TwoPoints(_, p) => Some(p),
+        _ => None,
     }
 }
 
-fn value_of(coordinate: u16) -> i32
-    ensures { result ≡ pos coordinate }
+// Numbers, and 0 in what is left of the four.
+fn one_number(a: i32) -> Numbers
+    ensures { result ≡ record { values = a ∷ pos 0 ∷ pos 0 ∷ pos 0 ∷ []; len = 1 } }
 {
-    coordinate as i32
+    Numbers {
+        values: [a, 0, 0, 0],
+        len: 1,
+    }
 }
 
 fn two_numbers(a: i32, b: i32) -> Numbers
@@ -585,25 +489,8 @@ fn two_numbers(a: i32, b: i32) -> Numbers
     }
 }
 
-fn one_number(a: i32) -> Numbers
-    ensures { result ≡ record { values = a ∷ pos 0 ∷ pos 0 ∷ pos 0 ∷ []; len = 1 } }
-{
-    Numbers {
-        values: [a, 0, 0, 0],
-        len: 1,
-    }
-}
-
-fn no_numbers() -> Numbers
-    ensures { result ≡ record { values = pos 0 ∷ pos 0 ∷ pos 0 ∷ pos 0 ∷ []; len = 0 } }
-{
-    Numbers {
-        values: [0, 0, 0, 0],
-        len: 0,
-    }
-}
-
 // The fixed parameters as numbers.
+#[tactic(auto, unfolding(crate::specs::Numbers::four_of))]
 pub fn numbers_of(parameters: Parameters) -> Numbers
     ensures { Holds (values_of parameters) result }
 {
@@ -614,14 +501,21 @@ pub fn numbers_of(parameters: Parameters) -> Numbers
             values: [a, b, c, 0],
             len: 3,
         },
-        Parameters::OnePoint(p) => two_numbers(value_of(p.x), value_of(p.y)),
+        Parameters::OnePoint(p) => two_numbers(i32::from(p.x), i32::from(p.y)),
         Parameters::TwoPoints(p, q) => Numbers {
-            values: [value_of(p.x), value_of(p.y), value_of(q.x), value_of(q.y)],
+            values: [
+                i32::from(p.x),
+                i32::from(p.y),
+                i32::from(q.x),
+                i32::from(q.y),
+            ],
             len: 4,
         },
         Parameters::AReal(r) => two_numbers(r.mantissa, r.exponent),
-        Parameters::AString => no_numbers(),
-        Parameters::AnArray => no_numbers(),
+        Parameters::AString | Parameters::AnArray => Numbers {
+            values: [0, 0, 0, 0],
+            len: 0,
+        },
         Parameters::IntegerThenArray(a) => one_number(a),
         Parameters::IntegerThenString(a) => one_number(a),
         Parameters::TwoCharacters(a, b) => two_numbers(a, b),

@@ -1,10 +1,7 @@
 // The part that a look up hands back, and what its companion says: no exported call hands back a part (docs/VECTORS.md).
 #![tactic(auto)]
 
-ghost use Rattle.std.specs.Prelude.{OnOk};
-ghost use Rattle.std.specs.Io.KnownBytes.{Appends};
-
-use macros::Finding;
+use macros::Stores;
 use std::io;
 use std::io::Write;
 
@@ -17,87 +14,55 @@ const SAVED: [u8; 14] = [0, 10, 1, 66, 0, 14, 3, 1, 2, 3, 255, 254, 1, 127];
 // An entry that its store ends in.
 const MALFORMED: [u8; 4] = [0, 10, 2, 72];
 
-fn text<W: Write>(writer: &mut W, s: &[u8]) -> io::Result<()>
-    ensures { OnOk result (Appends (W.contents writer.old) (W.contents writer.new) s.now) }
-{
-    writer.write_all(s)
-}
-
-fn decimal<W: Write>(writer: &mut W, n: u32) -> io::Result<()> {
-    write!(writer, "{n}")
-}
-
-fn signed<W: Write>(writer: &mut W, v: i32) -> io::Result<()> {
-    if signs::is_negative(v) {
-        text(writer, b"-")?;
-    }
-    decimal(writer, signs::magnitude(v))
-}
-
-fn byte<W: Write>(writer: &mut W, b: u8) -> io::Result<()> {
-    text(writer, b" ")?;
-    decimal(writer, b as u32)
-}
-
 fn bytes<W: Write>(writer: &mut W, s: &[u8]) -> io::Result<()> {
-    let mut i = 0;
-    while i < s.len() {
-        byte(writer, s[i])?;
-        i += 1;
+    for b in s {
+        write!(writer, " {b}")?;
     }
     Ok(())
 }
 
-// 0, or the refusal's number.
-fn number_of(finding: Finding) -> u8 {
-    match finding {
-        Finding::Found => 0,
-        Finding::Refused(refusal) => refusals::number(refusal),
-    }
+// What is found is 0, or the refusal's number.
+fn line<W: Write>(writer: &mut W, stores: Stores<'_>, number: i32) -> io::Result<()> {
+    write!(writer, "macro {number} of")?;
+    bytes(writer, stores.volatile)?;
+    write!(writer, " and of")?;
+    bytes(writer, stores.saved)?;
+    let found = match stores.found(number) {
+        Ok(()) => 0,
+        Err(refusal) => refusal.number(),
+    };
+    write!(writer, " gives {found}:")?;
+    bytes(writer, stores.look_up(number))?;
+    writeln!(writer)
 }
 
-fn line<'a, W: Write>(
+fn lines<W: Write>(
     writer: &mut W,
-    volatile: &'a [u8],
-    saved: &'a [u8],
-    number: i32,
+    volatile: &[u8],
+    saved: &[u8],
+    numbers: &[i32],
 ) -> io::Result<()> {
-    text(writer, b"macro ")?;
-    signed(writer, number)?;
-    text(writer, b" of")?;
-    bytes(writer, volatile)?;
-    text(writer, b" and of")?;
-    bytes(writer, saved)?;
-    text(writer, b" gives ")?;
-    decimal(
-        writer,
-        number_of(macros::found(volatile, saved, number)) as u32,
-    )?;
-    text(writer, b":")?;
-    bytes(writer, macros::look_up(volatile, saved, number))?;
-    text(writer, b"\n")
+    for number in numbers {
+        line(writer, Stores { volatile, saved }, *number)?;
+    }
+    Ok(())
 }
 
 // In one store, in the other, in both, and in none.
 fn found_and_absent<W: Write>(writer: &mut W) -> io::Result<()> {
-    line(writer, &VOLATILE, &SAVED, 5)?;
-    line(writer, &VOLATILE, &SAVED, 300)?;
-    line(writer, &VOLATILE, &SAVED, 7)?;
-    line(writer, &VOLATILE, &SAVED, 32767)?;
-    line(writer, &SAVED, &VOLATILE, 5)?;
-    line(writer, &SAVED, &SAVED, 7)?;
-    line(writer, &VOLATILE, &SAVED, 6)?;
-    line(writer, &VOLATILE, b"", 7)?;
-    line(writer, b"", b"", 0)
+    lines(writer, &VOLATILE, &SAVED, &[5, 300, 7, 32767])?;
+    lines(writer, &SAVED, &VOLATILE, &[5])?;
+    lines(writer, &SAVED, &SAVED, &[7])?;
+    lines(writer, &VOLATILE, &SAVED, &[6])?;
+    lines(writer, &VOLATILE, b"", &[7])?;
+    lines(writer, b"", b"", &[0])
 }
 
 fn refused<W: Write>(writer: &mut W) -> io::Result<()> {
-    line(writer, &VOLATILE, &SAVED, -1)?;
-    line(writer, &VOLATILE, &SAVED, 32768)?;
-    line(writer, &VOLATILE, &SAVED, 65541)?;
-    line(writer, &MALFORMED, &SAVED, 7)?;
-    line(writer, &VOLATILE, &MALFORMED, 300)?;
-    line(writer, &MALFORMED, &MALFORMED, -1)
+    lines(writer, &VOLATILE, &SAVED, &[-1, 32768, 65541])?;
+    lines(writer, &MALFORMED, &SAVED, &[7])?;
+    lines(writer, &VOLATILE, &MALFORMED, &[300])?;
+    lines(writer, &MALFORMED, &MALFORMED, &[-1])
 }
 
 fn main(rt: HostRuntime) -> io::Result<()> {

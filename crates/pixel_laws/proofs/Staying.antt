@@ -15,7 +15,7 @@ use Rattle.memory.specs.declared.Point.{Point}
 use Rattle.beam.specs.declared.Beam.{Beam}
 use Rattle.beam.specs.Validity.{is_size, is_bits, on_surface, in_viewport, is_valid}
 use Rattle.beam.specs.Settings.{settled, fresh_beam, make_fresh, bits_from, with_bits, set_bits, corners_on, framed, set_viewport, beam_at, set_beam, stepped, make_step}
-use Rattle.beam.proofs.Settling.{size-w, size-h}
+use Rattle.beam.proofs.Settling.{size_w, size_h}
 use Rattle.pixel_refusals.specs.Tests.{is_surface, raster_numbers, raster_characters, run_numbers, write_refusal, raster_refusal, run_refusal}
 use Rattle.pixel_refusals.proofs.Looking.{raster-passed, runs-passed}
 use Rattle.pixels.specs.Marks.{Mark, moved}
@@ -49,8 +49,8 @@ valid-of w h r i b =
 
 fresh-valid : (w h : ℕ) → is_size w h ≡ true → is_valid w h (fresh_beam w h) ≡ true
 fresh-valid w h z =
-    let one-column = size-w w h z in
-    let one-row = size-h w h z in
+    let one-column = size_w w h z in
+    let one-row = size_h w h z in
     valid-of w h (fresh_beam w h) (omega arith) refl
 
 bits-set : (v : ℤ) → bits_from v ≡ true → is_bits (nat_abs v) ≡ true

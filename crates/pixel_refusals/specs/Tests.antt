@@ -1,14 +1,11 @@
 -- The tests of a pixel write. "Order: 11, 8 for the record, 9, 8 for a number outside 0..32767 (in RP that is N alone, in RL each code) or a list of
 -- more than 256, then 10 for a character outside 32..95 or a wrong number of them." K1: "10 as before, with 96 now allowed."
 use Rattle.std.specs.Prelude.{ℕ, ◌+◌, ◌-◌, ◌*◌, ◌/◌, Bool, not, ◌&&◌, List, [], ◌∷◌, map, length, leb, eqb, ℤ, nat_abs}
-use Rattle.refusals.specs.Refusals.{number_of}
 use Rattle.refusals.specs.Answers.{pick, demand, every}
 use Rattle.ranges.specs.Ranges.{most_entries}
 use Rattle.ranges.specs.Ranges.{within}
 use Rattle.beam.specs.declared.Beam.{Beam}
 use Rattle.beam.specs.Validity.{is_size, is_valid}
-use Rattle.pixel_refusals.specs.declared.Verdict.{Verdict}
-use Rattle.pixel_refusals.specs.declared.Verdict.TheVariants.{Allowed, Refused}
 
 -- "the lent bytes number exactly W times H"
 unfoldable pub is_surface : (w h size : ℕ) → Bool
@@ -61,8 +58,3 @@ raster_refusal w h size beam n chs = write_refusal w h size beam (demand (raster
 
 unfoldable pub run_refusal : (w h size : ℕ) → Beam → List ℤ → ℕ
 run_refusal w h size beam codes = write_refusal w h size beam (demand (run_numbers codes) 8 0)
-
--- what a verdict says: 0 or the refusal's number
-unfoldable pub verdict_of : Verdict → ℕ
-verdict_of Allowed = 0
-verdict_of (Refused e) = number_of e

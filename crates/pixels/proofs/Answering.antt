@@ -1,6 +1,6 @@
 -- The two writes, by their verdict: refused and unchanged, or laid whole.
 use Prim.Native.Nat.{ℕ, ◌≤◌, ◌<◌}
-use mathlib.Core.Path.{◌≡◌}
+use mathlib.Core.Path.{◌≡◌, sym}
 use mathlib.Core.Bool.{true}
 use mathlib.Core.List.{List, map}
 use borrow.Author.Tests.{eq-eqb}
@@ -9,115 +9,120 @@ use lib.IntN.{ℤ, nat_abs}
 use mir.Syntax.{w32}
 use mir.Val.{SFits, to_z, of_z}
 use mir.Facts.{to_z-of_z}
+use Rattle.std.specs.Prelude.{Ok, Err}
 use Rattle.refusals.specs.declared.Refusal.{Refusal}
-use Rattle.refusals.specs.Refusals.{number_of}
-use Rattle.refusals.specs.Answers.{every}
+use Rattle.refusals.specs.Answers.{every, refusal_of}
 use Rattle.refusals.proofs.Numbers.{not_nought}
 use Rattle.beam.specs.declared.Beam.{Beam}
-use Rattle.pixel_refusals.specs.declared.Verdict.{Verdict}
-use Rattle.pixel_refusals.specs.declared.Verdict.TheVariants as verdicts
-use Rattle.pixel_refusals.specs.Tests.{is_raster, run_numbers, raster_refusal, run_refusal, verdict_of}
-use Rattle.pixel_refusals.proofs.Looking.{Passed, refusal-of, none_of, raster-passed, raster-within, runs-passed, runs-within}
-use Rattle.pixels.specs.declared.Drawing.TheVariants.{Drawn, Refused}
+use Rattle.pixel_refusals.specs.Tests.{is_raster, run_numbers, raster_refusal, run_refusal}
+use Rattle.pixel_refusals.proofs.Looking.{Passed, raster-passed, raster-within, runs-passed, runs-within}
 use Rattle.pixels.specs.Marks.{Mark}
-use Rattle.pixels.specs.Writes.{raster_marks, run_marks, run_total, drawing_of, written, surface_after, draw_raster, raster_surface, draw_runs, runs_surface}
+use Rattle.pixels.specs.Writes.{raster_marks, run_marks, run_total, drawn_by, written, surface_after, draw_raster, raster_surface, draw_runs, runs_surface}
 use Rattle.pixels.specs.Standing.{Ready, MarksLaid}
 use Rattle.pixels.proofs.Laying.{ready_of}
 
 -- ---- any write
 
-module _ (f : ℕ) (e : Refusal) (z : number_of e ≡ f) (ms : List Mark) (beam : Beam) where
-  told-refused : (n : ℕ) → drawing_of (Refused e beam) ≡ written f n ms beam
-  unfolding drawing_of written
+module _ (f : ℕ) (e : Refusal) (z : refusal_of {A = Unit {0}} (Err e) ≡ f) (ms : List Mark) (beam : Beam) where
+  told-refused : (n : ℕ) → drawn_by beam (Err e) ≡ written f n ms beam
+  unfolding drawn_by written refusal_of
   told-refused n = rw (← z, not_nought e)
 
   unchanged : (w h : ℕ) (s : List ℕ) → s ≡ surface_after f w h ms beam s
-  unfolding surface_after
+  unfolding surface_after refusal_of
   unchanged w h s = rw (← z, not_nought e)
 
-module _ (f : ℕ) (z : f ≡ 0) (ms : List Mark) {beam next : Beam} {w h : ℕ} {s t : List ℕ} (m : MarksLaid w h ms beam s next t) where
-  told-done : (n : ℕ) {k : ℕ} → k ≡ n → drawing_of (Drawn k next) ≡ written f n ms beam
-  unfolding drawing_of written
-  told-done n ek = rw (eq-eqb f 0 z, z, ek, m.behind)
+module _ (f : ℕ) (u : Unit {0}) (z : refusal_of (Ok u) ≡ f) where
+  none : f ≡ 0
+  unfolding refusal_of
+  none = sym z
 
-  laid-whole : t ≡ surface_after f w h ms beam s
-  unfolding surface_after
-  laid-whole = rw (eq-eqb f 0 z) m.surface
+  module _ (ms : List Mark) {beam next : Beam} {w h : ℕ} {s t : List ℕ} (m : MarksLaid w h ms beam s next t) where
+    told-done : (n : ℕ) {k : ℕ} → k ≡ n → drawn_by beam (Ok (record { count = k; beam = next })) ≡ written f n ms beam
+    unfolding drawn_by written
+    told-done n ek = rw (eq-eqb f 0 none, none, ek, m.behind)
+
+    laid-whole : t ≡ surface_after f w h ms beam s
+    unfolding surface_after
+    laid-whole = rw (eq-eqb f 0 none) m.surface
 
 ready : {w h size : ℕ} {beam : Beam} → Passed w h size beam → Ready w h beam size
 ready {w} {h} {size} {beam} p = ready_of w h size beam p.surface p.valid
 
 -- ---- RP: N comes back from the callees' contracts as the machine reads it
 
-module _ (w h size : ℕ) (beam : Beam) (n : ℤ) (list : List ℤ) (f : SFits w32 n) {v : Verdict} (ev : verdict_of v ≡ raster_refusal w h size beam (to_z w32 (of_z w32 n)) list) (g : v ≡ verdicts.Allowed) where
-  none : raster_refusal w h size beam n list ≡ 0
-  none = none_of (rw (to_z-of_z f) at ev) g
+module _ (w h size : ℕ) (beam : Beam) (n : ℤ) (list : List ℤ) (f : SFits w32 n) {u : Unit {0}} (ev : refusal_of (Ok u) ≡ raster_refusal w h size beam (to_z w32 (of_z w32 n)) list) where
+  allowed : raster_refusal w h size beam n list ≡ 0
+  allowed = none _ u (rw (to_z-of_z f) at ev)
 
   passed : Passed w h size beam
-  passed = raster-passed w h size beam n list none
+  passed = raster-passed w h size beam n list allowed
 
-  pub raster-ready : Ready w h beam size
-  raster-ready = ready passed
+  pub raster_ready : Ready w h beam size
+  raster_ready = ready passed
 
-  pub raster-some : 0 < beam.bits
-  raster-some = passed.some
+  pub raster_some : 0 < beam.bits
+  raster_some = passed.some
 
-  pub raster-six : beam.bits ≤ 6
-  raster-six = passed.six
+  pub raster_six : beam.bits ≤ 6
+  raster_six = passed.six
 
-  pub raster-fits : every is_raster list ≡ true
-  raster-fits = raster-within w h size beam n list none
+  pub raster_fits : every is_raster list ≡ true
+  raster_fits = raster-within w h size beam n list allowed
 
-module _ (w h : ℕ) (beam : Beam) (n : ℤ) (list : List ℤ) (s : List ℕ) (f : SFits w32 n) (v : Verdict) (ev : verdict_of v ≡ raster_refusal w h (length s) beam (to_z w32 (of_z w32 n)) list) where
-  verdict : verdict_of v ≡ raster_refusal w h (length s) beam n list
-  verdict = rw (to_z-of_z f) at ev
+module _ (w h : ℕ) (beam : Beam) (n : ℤ) (list : List ℤ) (s : List ℕ) (f : SFits w32 n) where
+  module _ (e : Refusal) (ev : refusal_of {A = Unit {0}} (Err e) ≡ raster_refusal w h (length s) beam (to_z w32 (of_z w32 n)) list) where
+    pub raster_refused : drawn_by beam (Err e) ≡ draw_raster w h beam n list (length s)
+    unfolding draw_raster
+    raster_refused = told-refused _ e (rw (to_z-of_z f) at ev) _ beam _
 
-  pub raster-refused : (e : Refusal) → v ≡ verdicts.Refused e → drawing_of (Refused e beam) ≡ draw_raster w h beam n list (length s)
-  unfolding draw_raster
-  raster-refused e g = told-refused _ e (refusal-of e verdict g) _ beam _
+    pub raster_unchanged : s ≡ raster_surface w h beam n list s
+    unfolding raster_surface
+    raster_unchanged = unchanged _ e (rw (to_z-of_z f) at ev) _ beam w h s
 
-  pub raster-unchanged : (e : Refusal) → v ≡ verdicts.Refused e → s ≡ raster_surface w h beam n list s
-  unfolding raster_surface
-  raster-unchanged e g = unchanged _ e (refusal-of e verdict g) _ beam w h s
-
-  module _ (g : v ≡ verdicts.Allowed) {k : ℕ} (ek : k ≡ nat_abs (to_z w32 (of_z w32 n))) {next : Beam} {t : List ℕ} (m : MarksLaid w h (raster_marks beam k (map nat_abs list)) beam s next t) where
+  module _ (u : Unit {0}) (ev : refusal_of (Ok u) ≡ raster_refusal w h (length s) beam (to_z w32 (of_z w32 n)) list)
+      {k : ℕ} (ek : k ≡ nat_abs (to_z w32 (of_z w32 n))) {next : Beam} {t : List ℕ} (m : MarksLaid w h (raster_marks beam k (map nat_abs list)) beam s next t) where
     count : k ≡ nat_abs n
     count = rw (to_z-of_z f) at ek
 
-    pub raster-drawn : drawing_of (Drawn k next) ≡ draw_raster w h beam n list (length s)
+    pub raster_drawn : drawn_by beam (Ok (record { count = k; beam = next })) ≡ draw_raster w h beam n list (length s)
     unfolding draw_raster
-    raster-drawn = told-done _ (none_of verdict g) _ (rw count at m) _ count
+    raster_drawn = told-done _ u (rw (to_z-of_z f) at ev) _ (rw count at m) _ count
 
-    pub raster-laid : t ≡ raster_surface w h beam n list s
+    pub raster_laid : t ≡ raster_surface w h beam n list s
     unfolding raster_surface
-    raster-laid = laid-whole _ (none_of verdict g) _ (rw count at m)
+    raster_laid = laid-whole _ u (rw (to_z-of_z f) at ev) _ (rw count at m)
 
 -- ---- RL
 
-module _ (w h size : ℕ) (beam : Beam) (list : List ℤ) {v : Verdict} (ev : verdict_of v ≡ run_refusal w h size beam list) (g : v ≡ verdicts.Allowed) where
-  pub runs-ready : Ready w h beam size
-  runs-ready = ready (runs-passed w h size beam list (none_of ev g))
+module _ (w h size : ℕ) (beam : Beam) (list : List ℤ) {u : Unit {0}} (ev : refusal_of (Ok u) ≡ run_refusal w h size beam list) where
+  may : Passed w h size beam
+  may = runs-passed w h size beam list (none _ u ev)
 
-  pub runs-six : beam.bits ≤ 6
-  runs-six = (runs-passed w h size beam list (none_of ev g)).six
+  pub runs_ready : Ready w h beam size
+  runs_ready = ready may
+
+  pub runs_six : beam.bits ≤ 6
+  runs_six = may.six
 
   pub runs_fit : run_numbers list ≡ true
-  runs_fit = runs-within w h size beam list (none_of ev g)
+  runs_fit = runs-within w h size beam list (none _ u ev)
 
-module _ (w h : ℕ) (beam : Beam) (list : List ℤ) (s : List ℕ) {v : Verdict} (ev : verdict_of v ≡ run_refusal w h (length s) beam list) where
-  pub runs-refused : (e : Refusal) → v ≡ verdicts.Refused e → drawing_of (Refused e beam) ≡ draw_runs w h beam list (length s)
-  unfolding draw_runs
-  runs-refused e g = told-refused _ e (refusal-of e ev g) _ beam _
-
-  pub runs-unchanged : (e : Refusal) → v ≡ verdicts.Refused e → s ≡ runs_surface w h beam list s
-  unfolding runs_surface
-  runs-unchanged e g = unchanged _ e (refusal-of e ev g) _ beam w h s
-
-  module _ (g : v ≡ verdicts.Allowed) {next : Beam} {t : List ℕ} (m : MarksLaid w h (run_marks beam.bits (map nat_abs list)) beam s next t) where
-    pub runs-drawn : {k : ℕ} → k ≡ run_total beam.bits (map nat_abs list) → drawing_of (Drawn k next) ≡ draw_runs w h beam list (length s)
+module _ (w h : ℕ) (beam : Beam) (list : List ℤ) (s : List ℕ) where
+  module _ (e : Refusal) (ev : refusal_of {A = Unit {0}} (Err e) ≡ run_refusal w h (length s) beam list) where
+    pub runs_refused : drawn_by beam (Err e) ≡ draw_runs w h beam list (length s)
     unfolding draw_runs
-    runs-drawn ek = told-done _ (none_of ev g) _ m _ ek
+    runs_refused = told-refused _ e ev _ beam _
 
-    pub runs-laid : t ≡ runs_surface w h beam list s
+    pub runs_unchanged : s ≡ runs_surface w h beam list s
     unfolding runs_surface
-    runs-laid = laid-whole _ (none_of ev g) _ m
+    runs_unchanged = unchanged _ e ev _ beam w h s
+
+  module _ (u : Unit {0}) (ev : refusal_of (Ok u) ≡ run_refusal w h (length s) beam list) {next : Beam} {t : List ℕ} (m : MarksLaid w h (run_marks beam.bits (map nat_abs list)) beam s next t) where
+    pub runs_drawn : {k : ℕ} → k ≡ run_total beam.bits (map nat_abs list) → drawn_by beam (Ok (record { count = k; beam = next })) ≡ draw_runs w h beam list (length s)
+    unfolding draw_runs
+    runs_drawn ek = told-done _ u ev _ m _ ek
+
+    pub runs_laid : t ≡ runs_surface w h beam list s
+    unfolding runs_surface
+    runs_laid = laid-whole _ u ev _ m

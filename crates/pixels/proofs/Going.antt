@@ -1,15 +1,15 @@
 -- A loop that lays marks: what is left from here ends where the whole ends.
-use Prim.Native.Nat.{ℕ, zero, suc, ◌+◌, ◌-◌, ◌*◌, ◌/◌, ◌%◌, ◌^◌, ◌≤◌, ◌<◌, min}
+use Prim.Native.Nat.{ℕ, suc, ◌+◌, ◌-◌, ◌*◌, ◌/◌, ◌%◌, ◌^◌, ◌≤◌, ◌<◌, min}
 use mathlib.Core.Path.{◌≡◌, refl, sym, ◌∙◌, ap}
 use mathlib.Core.List.{List, [], ◌∷◌, ◌++◌}
-use native.Mathlib.Nat.{not-suc-le-zero, mul-suc, mul-le-mul_left, min-le_right, mul-div-le, le_trans}
+use native.Mathlib.Nat.{mul-suc, mul-le-mul_left, min-le_right, mul-div-le, le_trans}
 use native.Mathlib.Omega.{arith}
 use borrow.Author.Tests.{eq-eqb, ne_eqb}
 use lib.ListN.{length}
 use Rattle.beam.specs.declared.Beam.{Beam}
 use Rattle.pixel_refusals.specs.Tests.{per_character, end_of_row}
 use Rattle.pixels.specs.Marks.{Mark, ink, laid, moved, row_end}
-use Rattle.pixels.specs.Writes.{pixels, character_marks, left_after, run}
+use Rattle.pixels.specs.Writes.{pixels, character_marks, run}
 use Rattle.pixels.specs.Standing.{Ready, MarksLaid}
 use Rattle.pixels.proofs.Laying.{laid-append, laid-length, moved-append, moved_inside, moved-bits}
 use Rattle.pixels.proofs.Rows.{row_kept}
@@ -43,33 +43,25 @@ module _ {w h : ℕ} {ms₀ : List Mark} {beam₀ : Beam} {s₀ : List ℕ} {ms 
   unfolding laid moved
   going_done e = record { behind = ap (λ (l : List Mark). moved l beam) (sym e) ∙ g.end; surface = ap (λ (l : List Mark). laid w h l beam s) (sym e) ∙ g.surface }
 
--- ---- runs and pixels, by how many are left
+-- ---- runs and pixels, i of n laid
 
-one_less : (n : ℕ) → suc n - 1 ≡ n
-one_less n = omega arith
+pub run_next : (c n i : ℕ) → i < n → run c (n - i) ≡ ink c ∷ run c (n - (i + 1))
+run_next c n i l = let e : n - i ≡ suc (n - (i + 1)) = omega arith in rw e
 
-pub run_more : (c n : ℕ) → 0 < n → run c n ≡ ink c ∷ run c (n - 1)
-run_more c zero l = absurd (not-suc-le-zero l)
-run_more c (suc n) l = rw one_less
+pub run_done : (c n i : ℕ) → n ≤ i → run c (n - i) ≡ []
+run_done c n i l = let e : n - i ≡ 0 = omega arith in rw e
 
-pub run_none : (c n : ℕ) → n ≤ 0 → run c n ≡ []
-run_none c zero l = refl
-run_none c (suc n) l = absurd (not-suc-le-zero l)
-
-pub pixels-more : (bits n sh v : ℕ) → 0 < n → pixels bits n sh v ≡ ink (v / 2 ^ (sh - bits) % 2 ^ bits) ∷ pixels bits (n - 1) (sh - bits) v
+pub pixels_next : (bits n i sh v : ℕ) → i < n → pixels bits (n - i) sh v ≡ ink (v / 2 ^ (sh - bits) % 2 ^ bits) ∷ pixels bits (n - (i + 1)) (sh - bits) v
 unfolding pixels
-pixels-more bits zero sh v l = absurd (not-suc-le-zero l)
-pixels-more bits (suc n) sh v l = rw one_less
+pixels_next bits n i sh v l = let e : n - i ≡ suc (n - (i + 1)) = omega arith in rw e
 
-pub pixels-none : (bits n sh v : ℕ) → n ≤ 0 → pixels bits n sh v ≡ []
+pub pixels_done : (bits n i sh v : ℕ) → n ≤ i → pixels bits (n - i) sh v ≡ []
 unfolding pixels
-pixels-none bits zero sh v l = refl
-pixels-none bits (suc n) sh v l = absurd (not-suc-le-zero l)
+pixels_done bits n i sh v l = let e : n - i ≡ 0 = omega arith in rw e
 
 -- the bits of the pixels left
-pub bits-less : (b n : ℕ) → 0 < n → b * n ≡ b * (n - 1) + b
-bits-less b zero l = absurd (not-suc-le-zero l)
-bits-less b (suc n) l = rw (one_less, mul-suc)
+pub bits_less : (b n i : ℕ) → i < n → b * (n - i) ≡ b * (n - (i + 1)) + b
+bits_less b n i l = let e : n - i ≡ suc (n - (i + 1)) = omega arith in rw (e, mul-suc)
 
 -- a character has room for its pixels
 pub room : (b n : ℕ) → b * min n (per_character b) ≤ 6
@@ -86,15 +78,7 @@ module _ (beam : Beam) (n ch : ℕ) {m : ℕ} (em : m ≡ min n (6 / beam.bits))
     unfolding character_marks
     character_laid j = rw (ne_eqb ch end_of_row o) (rw em at j)
 
-    pub left_so : n - m ≡ left_after beam n ch
-    unfolding left_after
-    left_so = rw (ne_eqb ch end_of_row o) (omega (arith, em))
-
 module _ (beam : Beam) (n ch : ℕ) (e : ch ≡ end_of_row) where
-  pub end-laid : {w h : ℕ} (s : List ℕ) {next : Beam} → next ≡ moved (row_end beam) beam → MarksLaid w h (character_marks beam n ch) beam s next s
+  pub end_laid : {w h : ℕ} (s : List ℕ) {next : Beam} → next ≡ moved (row_end beam) beam → MarksLaid w h (character_marks beam n ch) beam s next s
   unfolding character_marks
-  end-laid {w} {h} s j = rw (eq-eqb ch end_of_row e) (record { behind = j; surface = sym (row_kept beam w h s) })
-
-  pub left_same : n ≡ left_after beam n ch
-  unfolding left_after
-  left_same = rw (eq-eqb ch end_of_row e)
+  end_laid {w} {h} s j = rw (eq-eqb ch end_of_row e) (record { behind = j; surface = sym (row_kept beam w h s) })

@@ -13,7 +13,7 @@ use Rattle.beam.specs.declared.Beam.{Beam}
 use Rattle.beam.specs.Validity.{is_size, on_surface, in_viewport, is_valid}
 use Rattle.beam.specs.Settings.{beam_at, stepped}
 use Rattle.pixel_refusals.specs.Tests.{is_surface}
-use Rattle.pixel_refusals.proofs.Looking.{area-le, size_of}
+use Rattle.pixel_refusals.proofs.Looking.{area_le, size_of}
 use Rattle.pixels.specs.Marks.{Mark, act, place, laid, moved}
 use Rattle.pixels.specs.Standing.{BeamInside, Ready}
 
@@ -28,7 +28,7 @@ pub on-surface : {w h : ℕ} {beam : Beam} {n : ℕ} → Ready w h beam n → ((
 unfolding place
 on-surface {w} {h} {beam} {n} r =
     let l : (h - 1 - beam.y) * w + beam.x < h * w = place-lt r.inside in
-    let a : h * w ≤ 262144 = area-le r.narrow r.short in
+    let a : h * w ≤ 262144 = area_le r.narrow r.short in
     omega arith
 
 -- ---- one step

@@ -42,8 +42,8 @@ module _ (beam : Beam) where
     row_past = rw (add-one (beam.right - beam.x)) (gaps_past (beam.right - beam.x) beam (omega arith))
 
     -- as the code goes there
-    pub row_end-so : {next : Beam} → next ≡ stepped (beam_at beam beam.right beam.y) → next ≡ moved (row_end beam) beam
-    row_end-so j = j ∙ sym row_past
+    pub row_end_so : {next : Beam} → next ≡ stepped (beam_at beam beam.right beam.y) → next ≡ moved (row_end beam) beam
+    row_end_so j = j ∙ sym row_past
 
     -- "to the left edge of the row below"
     pub row_below : beam.bottom < beam.y → moved (row_end beam) beam ≡ beam_at beam beam.left (beam.y - 1)

@@ -2,13 +2,13 @@
 -- down, 6/bits to a character .. spare low bits are not looked at. RL holds codes, none negative: length times 2^bits plus colour (house rule: length 0
 -- places nothing)." And the end-of-row of K1: "Whole characters before it keep all their pixels. Places passed over aren't counted in N." Which
 -- writes are refused: `pixel_refusals`.
-use Rattle.std.specs.Prelude.{ℕ, zero, suc, ◌+◌, ◌-◌, ◌/◌, ◌%◌, ◌^◌, min, List, [], ◌∷◌, ◌++◌, map, length, replicate, eqb, ℤ, nat_abs}
+use Rattle.std.specs.Prelude.{ℕ, zero, suc, ◌+◌, ◌-◌, ◌/◌, ◌%◌, ◌^◌, min, List, [], ◌∷◌, ◌++◌, map, length, replicate, eqb, ℤ, nat_abs, Result, Ok, Err}
+use Rattle.refusals.specs.declared.Refusal.{Refusal}
 use Rattle.refusals.specs.Refusals.{number_of}
 use Rattle.refusals.specs.Answers.{pick}
 use Rattle.beam.specs.declared.Beam.{Beam}
 use Rattle.pixel_refusals.specs.Tests.{per_character, end_of_row, raster_refusal, run_refusal}
-use Rattle.pixels.specs.declared.Drawing.{Drawing}
-use Rattle.pixels.specs.declared.Drawing.TheVariants.{Drawn, Refused}
+use Rattle.pixels.specs.declared.Drawn.{Drawn}
 use Rattle.pixels.specs.Marks.{Mark, ink, laid, moved, row_end}
 
 -- ---- the marks of a write
@@ -52,10 +52,10 @@ pub record WriteOutcome : Type 0 where
   pub count : ℕ
   pub after : Beam
 
--- what the answer says; "counts with a refusal are 0"
-unfoldable pub drawing_of : Drawing → WriteOutcome
-drawing_of (Drawn n beam) = record { number = 0; count = n; after = beam }
-drawing_of (Refused e beam) = record { number = number_of e; count = 0; after = beam }
+-- what the answer of a write with the record `came` says: where it is refused, the record is as it came; "counts with a refusal are 0"
+unfoldable pub drawn_by : (came : Beam) → Result Drawn Refusal → WriteOutcome
+drawn_by came (Ok d) = record { number = 0; count = d.count; after = d.beam }
+drawn_by came (Err e) = record { number = number_of e; count = 0; after = came }
 
 -- a write with the refusal f, or with none, of n pixels by these marks: the answer, and the surface
 unfoldable pub written : (f n : ℕ) → List Mark → Beam → WriteOutcome

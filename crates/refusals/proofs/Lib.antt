@@ -4,4 +4,5 @@ pub mod Cases
 pub mod Coinciding
 pub mod Many
 pub mod Passing
+pub mod Passed
 pub mod Shut

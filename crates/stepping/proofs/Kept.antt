@@ -1,12 +1,10 @@
 -- "changes no other field": whatever the step by value answers, its record differs from the one that came in the beam's place alone.
 use Prim.Native.Nat.{ℕ}
-use mathlib.Core.Path.{◌≡◌, refl, sym, ◌∙◌, ap}
+use mathlib.Core.Path.{◌≡◌, refl, sym, ap}
 use lib.Dec.{ltb, eqb}
 use Rattle.refusals.proofs.Cases.{by_pick}
 use Rattle.beam.specs.declared.Beam.{Beam}
 use Rattle.beam.specs.Settings.{beam_at, settled, stepped, make_step}
-use Rattle.stepping.specs.declared.Moved.{Moved}
-use Rattle.stepping.specs.Stepping.{moved_of}
 
 -- the record new is old with the beam of new
 abbrev BeamAlone : (old new : Beam) → Type 0
@@ -23,16 +21,6 @@ stepped-alone beam =
 pub beam-alone : (w h : ℕ) (beam : Beam) → BeamAlone beam (make_step w h beam).after
 unfolding make_step settled
 beam-alone w h beam = by_pick (BeamAlone beam) (eqb (make_step w h beam).number 0) (stepped beam) beam (λ _. stepped-alone beam) (λ _. refl)
-
--- the two clauses of a step in a lent record, from what the step by value ensures
-module _ (w h : ℕ) (old : Beam) {m : Moved} (e : m ≡ moved_of (make_step w h old)) where
-  pub number_so : m.number ≡ (make_step w h old).number
-  unfolding moved_of
-  number_so = ap (λ (n : Moved). n.number) e
-
-  pub record_so : beam_at old m.x m.y ≡ (make_step w h old).after
-  unfolding moved_of
-  record_so = ap (λ (n : Moved). beam_at old n.x n.y) e ∙ beam-alone w h old
 
 -- every field but x and y
 pub record Kept (old new : Beam) : Type 0 where

@@ -1,12 +1,16 @@
-use Rattle.commands.proofs.Heads.{past_end, skim_is, head_none}
+use Rattle.refusals.proofs.Rules.{tests}
+use Rattle.commands.specs.Reading.{command_at, told, command_of, head_of}
 use borrow.Author.Rules.{rules}
+use Rattle.commands.proofs.Heads.{skim_is}
 use Rattle.commands.proofs.skim_command.Goals as goal
 
 pub returns-then-start-s : goal.returns-then-start-s
-returns-then-start-s c = search (rules, past_end)
+unfolding command_at told command_of
+returns-then-start-s c = search tests
 
-pub returns-in-Head : goal.returns-in-Head
-returns-in-Head c = search (rules, skim_is)
+pub returns-in_err-letters : goal.returns-in_err-letters
+unfolding command_at told command_of head_of
+returns-in_err-letters c = search tests
 
-pub returns-in-Refused : goal.returns-in-Refused
-returns-in-Refused c = search (rules, head_none)
+pub returns : goal.returns
+returns c = search (rules, skim_is)

@@ -1,14 +1,6 @@
 use native.Mathlib.Omega.{arith}
-use lib.ListN.{length-set}
-use Rattle.defining.proofs.Writing.{header_set}
-use borrow.Author.Rules.{rules}
+use Rattle.defining.proofs.Writing.{header_put}
 use Rattle.defining.proofs.write_header.Goals as goal
 
-pub bounds-store-at-2 : goal.bounds-store-at-2
-bounds-store-at-2 c = simp length-set (omega arith)
-
-pub bounds-store-at-3 : goal.bounds-store-at-3
-bounds-store-at-3 c = simp length-set (omega arith)
-
 pub returns : goal.returns
-returns c = search (rules, header_set)
+returns c = header_put c.args.number c.args.long c.args.store.now c.args.at _ c.requires.1 c.requires.2 c.requires.0 (omega arith) c.to_be_bytes.ensures c.copy_from_slice.ensures.after

@@ -4,8 +4,8 @@ use Rattle.macros.specs.Store.{three_bytes}
 use Rattle.macros.proofs.Headers.{Hopping}
 use Rattle.macros.proofs.body_by_headers.Given as goal
 
-abbrev pub invariant-loop-n : goal.invariant-loop-n
-invariant-loop-n l = Hopping three_bytes l.store l.number l.at
+abbrev pub invariant-loop-entry : goal.invariant-loop-entry
+invariant-loop-entry l = Hopping three_bytes l.store l.number l.at
 
-abbrev pub decreases-loop-n : goal.decreases-loop-n
-decreases-loop-n l = length l.store - l.at
+abbrev pub decreases-loop-entry : goal.decreases-loop-entry
+decreases-loop-entry l = length l.store - l.at

@@ -4,8 +4,8 @@ use Rattle.macros.specs.Store.{three_bytes}
 use Rattle.macros.proofs.Fronts.{Surveying}
 use Rattle.macros.proofs.gap_for.Given as goal
 
-abbrev pub invariant-loop-n : goal.invariant-loop-n
-invariant-loop-n l = Surveying three_bytes l.store l.number l.gap l.least
+abbrev pub invariant-loop-entry : goal.invariant-loop-entry
+invariant-loop-entry l = Surveying three_bytes l.store l.number l.gap l.least
 
-abbrev pub decreases-loop-n : goal.decreases-loop-n
-decreases-loop-n l = length l.store - l.gap.end
+abbrev pub decreases-loop-entry : goal.decreases-loop-entry
+decreases-loop-entry l = length l.store - l.gap.end

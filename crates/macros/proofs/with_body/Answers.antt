@@ -4,12 +4,6 @@ use Rattle.macros.proofs.Fronts.{heads}
 use borrow.Author.Rules.{rules}
 use Rattle.macros.proofs.with_body.Goals as goal
 
-pub returns-then-long-lt1 : goal.returns-then-long-lt1
-returns-then-long-lt1 c = search (rules, heads)
-
-pub returns-then-room-long : goal.returns-then-room-long
-returns-then-room-long c = search (rules, heads)
-
 pub returns : goal.returns
 unfolding Bytes
 returns c = let bytes : Bytes c.args.store.now = λ i. omega (arith, c.type_inv.store i) in search (rules, heads)

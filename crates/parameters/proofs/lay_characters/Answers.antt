@@ -1,15 +1,12 @@
-use Rattle.parameters.proofs.Entering.{layings}
+use mathlib.Core.Path.{◌∙◌}
+use mir.Syntax.{w32}
+use mir.Val.{SFits}
+use mir.Facts.{to_z-of_z}
 use borrow.Author.Rules.{rules}
+use Rattle.parameters.proofs.Entering.{laying_more}
 use Rattle.parameters.proofs.lay_characters.Goals as goal
 
-pub loop-i-init : goal.loop-i-init
-loop-i-init c = search (rules, layings)
-
 pub loop-i-preserved : goal.loop-i-preserved
-loop-i-preserved c = search (rules, layings)
-
-pub shape_of-list : goal.shape_of-list
-shape_of-list c = search (rules, layings)
-
-pub returns : goal.returns
-returns c = search (rules, layings)
+loop-i-preserved c =
+    let f : SFits w32 c.entry_of.result = search rules in
+    laying_more _ _ _ _ c.loop-i.invariant _ c.loop-i-test.true (to_z-of_z f ∙ c.entry_of.ensures)

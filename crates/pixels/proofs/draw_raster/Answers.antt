@@ -1,12 +1,24 @@
-use Rattle.pixels.proofs.Answering.{raster-ready, raster-some, raster-six, raster-fits, raster-refused, raster-unchanged, raster-drawn, raster-laid}
-use borrow.Author.Rules.{rules}
+use Rattle.std.proofs.lemmas.Result.{err_from_is_err_and}
+use Rattle.pixels.proofs.Answering.{raster_ready, raster_some, raster_six, raster_fits, raster_refused, raster_unchanged, raster_drawn, raster_laid}
 use Rattle.pixels.proofs.draw_raster.Goals as goal
 
+pub returns-in_err-raster_verdict : goal.returns-in_err-raster_verdict
+returns-in_err-raster_verdict c =
+    let e = c.in_err-raster_verdict.ensures in
+    let p = err_from_is_err_and c.from_residual.result c.from_residual.ensures.1 in
+    rw (p.1, p.2) (raster_refused _ _ _ _ _ _ c.ranges.n _ e, raster_unchanged _ _ _ _ _ _ c.ranges.n _ e)
+
 pub lay_raster-after-requires : goal.lay_raster-after-requires
-lay_raster-after-requires c = search (rules, raster-ready, raster-some, raster-six, raster-fits)
+lay_raster-after-requires c =
+    let e = c.in_ok-raster_verdict.ensures in
+    record {
+      ready = raster_ready _ _ _ _ _ _ c.ranges.n e;
+      bits_nonzero = (raster_some _ _ _ _ _ _ c.ranges.n e, raster_six _ _ _ _ _ _ c.ranges.n e);
+      list_value = raster_fits _ _ _ _ _ _ c.ranges.n e;
+    }
 
-pub returns-in-Refused : goal.returns-in-Refused
-returns-in-Refused c = search (rules, raster-refused, raster-unchanged)
-
-pub returns-in-Allowed : goal.returns-in-Allowed
-returns-in-Allowed c = search (rules, raster-drawn, raster-laid)
+pub returns : goal.returns
+returns c =
+    let e = c.in_ok-raster_verdict.ensures in
+    let laid = c.lay_raster-after.ensures in
+    (raster_drawn _ _ _ _ _ _ c.ranges.n _ e c.magnitude-count.ensures laid, raster_laid _ _ _ _ _ _ c.ranges.n _ e c.magnitude-count.ensures laid)

@@ -2,45 +2,41 @@ use Prim.Native.Nat.{◌+◌}
 use mathlib.Core.Path.{◌≡◌, refl, ap}
 use mathlib.Core.List.{map, ◌++◌}
 use native.Mathlib.Omega.{arith}
-use lib.ListN.{drop}
-use lib.IntN.{nat_abs}
+use lib.ListN.{get_or, drop}
+use lib.IntN.{pos, nat_abs}
+use mir.Syntax.{w32}
+use mir.Val.{SFits}
+use borrow.Author.Rules.{rules}
 use Rattle.pixels.specs.Marks.{moved}
 use Rattle.pixels.specs.Writes.{character_marks, left_after, raster_marks}
-use Rattle.pixels.proofs.Going.{going, going_on, going_done}
-use Rattle.pixel_refusals.proofs.Entries.{entry_within, next-entry, no_entry}
+use Rattle.pixels.proofs.Going.{going_on, going_done}
+use Rattle.pixel_refusals.proofs.Entries.{entry_at, entry_within, next-entry, no_entry}
 use Rattle.pixels.proofs.lay_raster.Goals as goal
 
-pub loop-i-init : goal.loop-i-init
-loop-i-init c = (omega arith, going _ _ _ c.requires.ready)
+pub lay_character-next-requires-clause-bits_nonzero : goal.lay_character-next-requires-clause-bits_nonzero
+lay_character-next-requires-clause-bits_nonzero c =
+    let b : c.loop-v.next.bits ≡ c.args.beam.bits = c.loop-v.invariant.depth in
+    let fits : SFits w32 (get_or c.args.list.now c.loop-v.v-index (pos 0)) = search rules in
+    let e = entry_within 32 96 c.args.list.now c.loop-v.v-index c.requires.list_value c.loop-v-test.true in
+    (omega arith, (omega arith, omega (arith, e, entry_at c.args.list.now c.loop-v.v-index fits c.magnitude-ch.ensures)))
 
-pub left_after-then_left-requires : goal.left_after-then_left-requires
-left_after-then_left-requires c = omega arith
-
-pub lay_character-next-requires : goal.lay_character-next-requires
-lay_character-next-requires c =
-    let b : c.loop-i.next.bits ≡ c.args.beam.bits = c.loop-i.invariant.1.depth in
-    let e = entry_within 32 96 c.args.list.now c.loop-i.i c.requires.list_value c.loop-i-test.true in
-    record { ready = c.loop-i.invariant.1.ready; bits_nonzero = (omega arith, (omega arith, omega (arith, e, c.entry-ch.ensures))) }
-
-pub loop-i-preserved : goal.loop-i-preserved
+pub loop-v-preserved : goal.loop-v-preserved
 unfolding raster_marks
-loop-i-preserved c =
+loop-v-preserved c =
     let a = c.args in
-    let b = c.loop-i.next in
-    let n = c.loop-i.left in
-    let i = c.loop-i.i in
+    let b = c.loop-v.next in
+    let n = c.loop-v.left in
+    let i = c.loop-v.v-index in
+    let fits : SFits w32 (get_or a.list.now i (pos 0)) = search rules in
     let l = map nat_abs a.list.now in
-    let k = c.entry-ch.result in
+    let k = c.magnitude-ch.result in
     let m = c.lay_character-next.ensures in
     let left : c.left_after-then_left.result ≡ left_after b n k = c.left_after-then_left.ensures in
     let xs = character_marks b n k in
     let ys = raster_marks (moved xs b) (left_after b n k) (drop (i + 1) l) in
-    let d : raster_marks b n (drop i l) ≡ xs ++ ys = ap (raster_marks b n) (next-entry a.list.now i c.loop-i-test.true c.entry-ch.ensures) in
-    (omega arith, rw (left, m.behind) (going_on c.loop-i.invariant.1 xs ys d (record { behind = refl; surface = m.surface })))
-
-pub shape_of-surface : goal.shape_of-surface
-shape_of-surface c = c.loop-i.invariant.1.long
+    let d : raster_marks b n (drop i l) ≡ xs ++ ys = ap (raster_marks b n) (next-entry a.list.now i c.loop-v-test.true (entry_at a.list.now i fits c.magnitude-ch.ensures)) in
+    rw (left, m.behind) (going_on c.loop-v.invariant xs ys d (record { behind = refl; surface = m.surface }))
 
 pub returns : goal.returns
 unfolding raster_marks
-returns c = going_done c.loop-i.invariant.1 (ap (raster_marks c.loop-i.next c.loop-i.left) (no_entry c.args.list.now c.loop-i.i c.loop-i-test.false))
+returns c = going_done c.loop-v.invariant (ap (raster_marks c.loop-v.next c.loop-v.left) (no_entry c.args.list.now c.loop-v.v-index c.loop-v-test.false))

@@ -1,13 +1,10 @@
-use Prim.Native.Nat.{◌-◌, ◌≤◌}
 use mathlib.Core.List.{map}
-use lib.ListN.{length, drop}
+use lib.ListN.{drop}
 use lib.IntN.{nat_abs}
 use Rattle.pixels.specs.Writes.{raster_marks}
 use Rattle.pixels.proofs.Going.{Going}
 use Rattle.pixels.proofs.lay_raster.Given as goal
 
-abbrev pub invariant-loop-i : goal.invariant-loop-i
-invariant-loop-i l = (l.i ≤ length l.list) × Going l.w l.h (raster_marks l.initial.next l.n (map nat_abs l.list)) l.initial.next l.initial.surface (raster_marks l.next l.left (drop l.i (map nat_abs l.list))) l.next l.surface
-
-abbrev pub decreases-loop-i : goal.decreases-loop-i
-decreases-loop-i l = length l.list - l.i
+abbrev pub invariant-loop-v : goal.invariant-loop-v
+invariant-loop-v l =
+    Going l.size.w l.size.h (raster_marks l.initial.next l.n (map nat_abs l.list)) l.initial.next l.initial.surface (raster_marks l.next l.left (drop l.v-index (map nat_abs l.list))) l.next l.surface

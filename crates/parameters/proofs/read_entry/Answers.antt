@@ -1,9 +1,0 @@
-use Rattle.parameters.proofs.Entering.{entries}
-use borrow.Author.Rules.{rules}
-use Rattle.parameters.proofs.read_entry.Goals as goal
-
-pub returns-in-AnInteger : goal.returns-in-AnInteger
-returns-in-AnInteger c = search (rules, entries)
-
-pub returns-in-ACharacter : goal.returns-in-ACharacter
-returns-in-ACharacter c = search (rules, entries)

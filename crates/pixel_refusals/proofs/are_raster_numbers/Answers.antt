@@ -1,9 +1,0 @@
-use Rattle.pixel_refusals.proofs.Looking.{too_many_characters, numbers-tested}
-use borrow.Author.Rules.{rules}
-use Rattle.pixel_refusals.proofs.are_raster_numbers.Goals as goal
-
-pub returns-then-list-gt-MOST_ENTRIES : goal.returns-then-list-gt-MOST_ENTRIES
-returns-then-list-gt-MOST_ENTRIES c = search (rules, too_many_characters)
-
-pub returns : goal.returns
-returns c = search (rules, numbers-tested)
