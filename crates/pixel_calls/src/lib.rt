@@ -59,6 +59,7 @@ fn fields_of(beam: Beam) -> [usize; 7]
 // ---- what an answer hands back
 
 // 0 and the new record, or the refusal's number and the record as it came.
+#[tactic(auto, unfolding(beam::specs::Settings::settled_by))]
 fn hand(fields: &mut [usize; 7], came: Beam, setting: Result<Beam, Refusal>) -> u8
     ensures { HandsSettled (settled_by came setting) result fields.new }
 {
@@ -75,6 +76,7 @@ fn hand(fields: &mut [usize; 7], came: Beam, setting: Result<Beam, Refusal>) -> 
 }
 
 // The same of a write, with the number of pixels.
+#[tactic(auto, unfolding(pixels::specs::Writes::drawn_by))]
 fn hand_written(
     fields: &mut [usize; 7],
     count: &mut usize,
@@ -107,6 +109,7 @@ pub fn ardh_fresh(w: usize, h: usize, fields: &mut [usize; 7]) -> u8
 }
 
 // RU
+#[tactic(auto, using(crate::proofs::Answers::bits_given))]
 pub fn ardh_set_bits(
     w: usize,
     h: usize,
@@ -123,6 +126,7 @@ pub fn ardh_set_bits(
 }
 
 // RS
+#[tactic(auto, using(crate::proofs::Answers::viewport_given))]
 pub fn ardh_set_viewport(
     w: usize,
     h: usize,
@@ -142,6 +146,7 @@ pub fn ardh_set_viewport(
 }
 
 // RH
+#[tactic(auto, using(crate::proofs::Answers::beam_given))]
 pub fn ardh_set_beam(w: usize, h: usize, fields: &mut [usize; 7], x: i32, y: i32) -> u8
     ensures { HandsSettled (set_beam w h (beam_in fields.old) (point_given x y)) result fields.new }
 {
@@ -163,6 +168,7 @@ pub fn ardh_step(w: usize, h: usize, fields: &mut [usize; 7]) -> u8
 // ---- the two writes
 
 // RP
+#[tactic(auto, using(crate::proofs::Answers::raster_given, crate::proofs::Answers::raster_laid))]
 pub fn ardh_draw_raster(
     surface: &mut [u8],
     w: usize,
