@@ -186,9 +186,9 @@ module _ (kept : Remembered) (vs : List Value) {b : Option Point} (eb : point_me
   unfolding remembered
   kept-last g j = sym (after-from kept no_point vs ∙ rw (← eb, g, j))
 
-  pub kept-before : b ≡ None → kept ≡ after_values kept vs
+  pub kept_before : b ≡ None → kept ≡ after_values kept vs
   unfolding remembered
-  kept-before g = sym (after-from kept no_point vs ∙ rw (← eb, g))
+  kept_before g = sym (after-from kept no_point vs ∙ rw (← eb, g))
 
 -- ---- the whole command
 
@@ -256,16 +256,14 @@ front_long w l o k r f h = length-take-le r o (omega (arith, f.few, ap length f.
 pub answer_same : (w : List ℕ) (room : ℕ) {v : List ℕ} {q : Answer ℕ} → v ≡ w → q ≡ write_at v room 0 → q ≡ write_at w room 0
 answer_same w room e j = rw (← e) j
 
-pub ruleset turns = (entering-none, entry_ok, entering-more, entering-end)
+pub ruleset turns = (entering-none, entry_ok, entering-end)
 
-pub ruleset lists = (count-few, list_few, list_ok, list_poured)
+pub ruleset lists = (count-few, list_few, list_ok)
 
-pub ruleset tails = (tail-ok, tail-poured, no_tail)
+pub ruleset tails = (tail-ok, tail-poured)
 
-pub ruleset lasts = (kept-last, kept-before)
+pub ruleset commands = (command-inside, command-values, command-tail)
 
-pub ruleset commands = (command-inside, command-values, command-tail, command-poured)
-
-pub ruleset sendings = (all_written, stands-written, taken_back, front_long, answer_same, standing)
+pub ruleset sendings = (taken_back, front_long, answer_same, standing)
 
 pub ruleset writings = (fitting, tested, outside, accepted, none_changed)

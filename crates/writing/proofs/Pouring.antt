@@ -73,8 +73,8 @@ one_point_poured kept p l at {r} a b er eo =
     let n : r ≡ length w = er ∙ ap length q in
     record { size = n; stand = eo ∙ ap (λ (y : List ℕ). sets l at y) q; few = omega (arith, n, point-few kept kept.point p b) }
 
-pub inside-after : (kept : Remembered) (p : Point) {k : Remembered} → k ≡ remember kept p → inside p ≡ true → inside k.point ≡ true
-inside-after kept p e h = rw e h
+pub inside_after : (kept : Remembered) (p : Point) {k : Remembered} → k ≡ remember kept p → inside p ≡ true → inside k.point ≡ true
+inside_after kept p e h = rw e h
 
 -- two pieces, as the code pours them; a signed argument comes back as the machine reads it
 module _ (e : Entry) (kept : Remembered) (a b x y : ℤ) (l m o : List ℕ) (at n r : ℕ) where
@@ -165,7 +165,3 @@ pub none_poured : (kept : Remembered) (ps : Parameters) (l : List ℕ) (at : ℕ
 unfolding spell_values
 none_poured kept ps l at (inl g) = rw g (record { size = refl; stand = refl; few = omega arith })
 none_poured kept ps l at (inr g) = rw g (record { size = refl; stand = refl; few = omega arith })
-
-pub ruleset entries = (integer-poured, character_poured)
-
-pub ruleset pieces = (inside-after, two-entries_poured, three-integers_poured, two-points_poured)

@@ -43,9 +43,7 @@ fn pour_two_entries(
     ensures { Poured (spell_entry entry kept a ++ spell_entry entry kept b) 8 out.old out.new at result }
 {
     let n = pour_entry(kept, entry, a, out, at);
-    let next = at + n;
-    let m = pour_entry(kept, entry, b, out, next);
-    n + m
+    n + pour_entry(kept, entry, b, out, at + n)
 }
 
 fn pour_three_integers(kept: Remembered, a: i32, b: i32, d: i32, out: &mut [u8], at: usize) -> usize
@@ -53,9 +51,7 @@ fn pour_three_integers(kept: Remembered, a: i32, b: i32, d: i32, out: &mut [u8],
     ensures { Poured (spell_entry Entry.AnInteger kept a ++ spell_entry Entry.AnInteger kept b ++ spell_entry Entry.AnInteger kept d) 12 out.old out.new at result }
 {
     let n = pour_two_entries(kept, Entry::AnInteger, a, b, out, at);
-    let next = at + n;
-    let m = pour_entry(kept, Entry::AnInteger, d, out, next);
-    n + m
+    n + pour_entry(kept, Entry::AnInteger, d, out, at + n)
 }
 
 fn pour_one_point(kept: Remembered, p: Point, out: &mut [u8], at: usize) -> usize
@@ -65,15 +61,13 @@ fn pour_one_point(kept: Remembered, p: Point, out: &mut [u8], at: usize) -> usiz
     points::pour_point(kept, p, out, at)
 }
 
-#[tactic(auto, using(crate::proofs::Pouring::pieces))]
+#[tactic(auto, using(crate::proofs::Pouring::inside_after))]
 fn pour_two_points(kept: Remembered, p: Point, q: Point, out: &mut [u8], at: usize) -> usize
     requires { ((inside kept.point ≡ true) × ((inside p ≡ true) × (inside q ≡ true))) × (at ≤ 48) }
     ensures { Poured (sent kept (spell_point kept.point p) ++ sent (remember kept p) (spell_point p q)) 12 out.old out.new at result }
 {
     let n = pour_one_point(kept, p, out, at);
-    let next = at + n;
-    let m = pour_one_point(memory::with_point(kept, p), q, out, next);
-    n + m
+    n + pour_one_point(memory::with_point(kept, p), q, out, at + n)
 }
 
 fn pour_values(kept: Remembered, parameters: Parameters, out: &mut [u8], at: usize) -> usize
@@ -87,7 +81,14 @@ fn pour_values(kept: Remembered, parameters: Parameters, out: &mut [u8], at: usi
         Parameters::OnePoint(p) => pour_one_point(kept, p, out, at),
         Parameters::TwoPoints(p, q) => pour_two_points(kept, p, q, out, at),
         Parameters::AReal(real) => {
-            pour_two_entries(kept, Entry::AnInteger, real.mantissa, real.exponent, out, at)
+            pour_two_entries(
+                kept,
+                Entry::AnInteger,
+                real.mantissa,
+                real.exponent,
+                out,
+                at,
+            )
         }
         Parameters::TwoCharacters(a, b) => pour_two_entries(kept, Entry::ACharacter, a, b, out, at),
         Parameters::AString | Parameters::AnArray => 0,
@@ -136,9 +137,7 @@ fn pour_list(kept: Remembered, entry: Entry, list: &[i32], out: &mut [u8], at: u
     ensures { Poured (spell_tail kept (list_of entry) list.now) 1028 out.old out.new at result }
 {
     let n = spelling::pour_count(kept, list.len(), out, at);
-    let next = at + n;
-    let m = pour_all(kept, entry, list, out, next);
-    n + m
+    n + pour_all(kept, entry, list, out, at + n)
 }
 
 #[tactic(auto, using(crate::proofs::Lists::tails))]
@@ -159,7 +158,7 @@ fn pour_tail(
 }
 
 // What is remembered behind the values of a command.
-#[tactic(auto, using(crate::proofs::Lists::lasts))]
+#[tactic(auto, using(crate::proofs::Lists::kept_before))]
 fn values_left(kept: Remembered, parameters: Parameters) -> Remembered
     ensures { result ≡ after_values kept (values_of parameters) }
 {
@@ -197,11 +196,9 @@ fn pour_command(kept: Remembered, command: Command, list: &[i32], out: &mut [u8]
 {
     let parameters = command.parameters;
     store_head(command.first, command.second, out);
-    let n = pour_values(kept, parameters, out, 3);
-    let next = 3 + n;
+    let next = 3 + pour_values(kept, parameters, out, 3);
     // the values leave the mode, and a tail is spelled by the mode alone
-    let m = pour_tail(kept, parameters, list, out, next);
-    next + m
+    next + pour_tail(kept, parameters, list, out, next)
 }
 
 // What a command may need, by the mode: less where a 127 is data, so that there a shorter output is poured into at once.
@@ -233,7 +230,12 @@ fn send(kept: Remembered, command: Command, list: &[i32], out: &mut [u8]) -> Res
 
 // The command's shortest spelling from the front of `out` on: 8 for what may not be written, then 7.
 #[tactic(auto, using(crate::proofs::Lists::writings))]
-pub fn write_command(kept: Remembered, command: Command, list: &[i32], out: &mut [u8]) -> Result<usize, Refusal>
+pub fn write_command(
+    kept: Remembered,
+    command: Command,
+    list: &[i32],
+    out: &mut [u8],
+) -> Result<usize, Refusal>
     ensures { (answer_of result ≡ write_command kept command list.now (length out.old)) × (out.new ≡ after_write (answer_of result) (spell_command kept command list.now) out.old 0) }
 {
     if !writable::is_writable(kept, command, list) {
@@ -244,7 +246,12 @@ pub fn write_command(kept: Remembered, command: Command, list: &[i32], out: &mut
 
 // The same where the letters were found in the table and gave the kind of the parameters: they are sent as they stand.
 #[tactic(auto, using(crate::proofs::Lists::writings))]
-pub fn write_fitting(kept: Remembered, command: Command, list: &[i32], out: &mut [u8]) -> Result<usize, Refusal>
+pub fn write_fitting(
+    kept: Remembered,
+    command: Command,
+    list: &[i32],
+    out: &mut [u8],
+) -> Result<usize, Refusal>
     ensures { (answer_of result ≡ write_fitting kept command list.now (length out.old)) × (out.new ≡ after_write (answer_of result) (spell_command kept command list.now) out.old 0) }
 {
     if !writable::parameters_fit(kept, command.parameters, list) {
