@@ -102,10 +102,14 @@ unfolding fields
 one_more [] v = append-nil (field v)
 one_more (x ∷ vs) v = rw (one_more vs v) (sym (append_assoc (field x) (fields vs) (field v)))
 
-pub pouring-more : (list : List ℤ) {l₀ l o : List ℕ} {at n k : ℕ} (i : ℕ) (x : ℤ) → Pouring list l₀ at l n i → i < length list → x ≡ get_or list i (pos 0) → Put l n (field x) k o → Pouring list l₀ at o k (i + 1)
-pouring-more list i x f h e p =
+pub pouring_more : (list : List ℤ) {l₀ l o : List ℕ} {at n k : ℕ} (i : ℕ) (x : ℤ) → Pouring list l₀ at l n i → i < length list → x ≡ get_or list i (pos 0) → Put l n (field x) k o → Pouring list l₀ at o k (i + 1)
+pouring_more list i x f h e p =
     let d : take (i + 1) list ≡ take i list ++ (x ∷ []) = rw (add-one i, e) (take-suc list i (pos 0) h) in
     record { upto = omega arith; passed = rw (d, one_more (take i list) x) (poured-both p f.passed) }
+
+-- the same in a `for` loop, where the entry comes back from the callee's contract as the machine reads it
+pub pouring_next : (list : List ℤ) {l₀ l o : List ℕ} {at n k : ℕ} (i : ℕ) → Pouring list l₀ at l n i → i < length list → SFits w32 (get_or list i (pos 0)) → Put l n (field (to_z w32 (of_z w32 (get_or list i (pos 0))))) k o → Pouring list l₀ at o k (i + 1)
+pouring_next list i f h fits p = pouring_more list i _ f h (to_z-of_z fits) p
 
 pub pouring-end : (list : List ℤ) {l₀ l : List ℕ} {at n : ℕ} (i : ℕ) → Pouring list l₀ at l n i → length list ≤ i → Put l₀ at (fields list) n l
 pouring-end list i f h = let d : take i list ≡ list = take_all i list h in rw d at f.passed
@@ -113,4 +117,4 @@ pouring-end list i f h = let d : take i list ≡ list = take_all i list h in rw 
 pub pouring-long : {list : List ℤ} {l₀ l : List ℕ} {at n i : ℕ} → Pouring list l₀ at l n i → length l ≡ length l₀
 pouring-long f = poured-long f.passed
 
-pub ruleset many = (pouring-none, pouring-more, pouring-end, pouring-long)
+pub ruleset many = (pouring-none, pouring_next, pouring-end, pouring-long)

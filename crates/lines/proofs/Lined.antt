@@ -9,13 +9,12 @@ use native.Mathlib.Omega.{arith}
 use lib.ListN.{length, take, length-take}
 use lib.Seq.{length-take-le, take_all}
 use lib.IntN.{ℤ, pos}
-use Rattle.refusals.specs.declared.Refusal.{Refusal}
+use Rattle.std.specs.Prelude.{Option, Some, None}
+use Rattle.refusals.specs.declared.RefusedAt.{RefusedAt}
 use Rattle.refusals.specs.Refusals.{number_of}
 use Rattle.parameters.specs.declared.Parameters.{Parameters}
 use Rattle.parameters.specs.declared.Entry.{Entry}
 use Rattle.parameters.specs.declared.Numbers.{Numbers}
-use Rattle.parameters.specs.declared.Tail.{Tail}
-use Rattle.parameters.specs.declared.Tail.TheVariants.{NoList, ListOf}
 use Rattle.parameters.specs.Shapes.{Tailed, tail_meant, Value, values_of, tail_of}
 use Rattle.parameters.specs.Numbers.{numbers_of, Holds}
 use Rattle.commands.specs.declared.TakenCommand.{TakenCommand}
@@ -49,11 +48,11 @@ first_of k list =
     (λ e. take_all (min k (length list)) list (omega arith) ∙ sym (take_all k list (omega arith)))
     (eq-zero-or-pos (k - length list))
 
-pub list_poured : (t : Tailed) (k : ℕ) (list : List ℤ) {m : ℕ} {l h o : List ℕ} {at j n : ℕ} {u : Tail} {e : Entry} → tail_meant u ≡ t → u ≡ ListOf e → m ≡ min k (length list) → Put h j (fields (take m list)) n o → Put l at (field (pos k)) j h → Put l at (listed t k list) n o
+pub list_poured : (t : Tailed) (k : ℕ) (list : List ℤ) {m : ℕ} {l h o : List ℕ} {at j n : ℕ} {u : Option Entry} {e : Entry} → tail_meant u ≡ t → u ≡ Some e → m ≡ min k (length list) → Put h j (fields (take m list)) n o → Put l at (field (pos k)) j h → Put l at (listed t k list) n o
 unfolding listed
 list_poured t k list e f d q p = rw (← e, f, ← first_of k list, ← d) (poured-both q p)
 
-pub no-list : (t : Tailed) (k : ℕ) (list : List ℤ) {u : Tail} (l : List ℕ) (at : ℕ) → tail_meant u ≡ t → u ≡ NoList → length l * 1 < 2 ^ 63 → Put l at (listed t k list) at l
+pub no-list : (t : Tailed) (k : ℕ) (list : List ℤ) {u : Option Entry} (l : List ℕ) (at : ℕ) → tail_meant u ≡ t → u ≡ None → length l * 1 < 2 ^ 63 → Put l at (listed t k list) at l
 unfolding listed
 no-list t k list l at e f h = rw (← e, f) (poured-none l at h)
 
@@ -62,29 +61,29 @@ pub ruleset lists = (front_long, fixed-poured, least_long, list_poured, no-list,
 -- ---- the lines
 
 module _ {l o : List ℕ} {at n : ℕ} where
-  pub opening-poured : (x start : ℕ) {l₁ : List ℕ} {i : ℕ} → Put l₁ i (field (pos start)) n o → Put l at (x ∷ []) i l₁ → Put l at (opening x start) n o
+  pub opening_poured : (x start : ℕ) {l₁ : List ℕ} {i : ℕ} → Put l₁ i (field (pos start)) n o → Put l at (x ∷ []) i l₁ → Put l at (opening x start) n o
   unfolding opening
-  opening-poured x start b a = poured-both b a
+  opening_poured x start b a = poured-both b a
 
-  pub text-poured : (start b : ℕ) {l₁ l₂ : List ℕ} {i j : ℕ} → Put l₂ j (10 ∷ []) n o → Put l₁ i (field (pos b)) j l₂ → Put l at (opening 84 start) i l₁ → Put l at (text_line start b) n o
+  pub text_poured : (start b : ℕ) {l₁ l₂ : List ℕ} {i j : ℕ} → Put l₂ j (10 ∷ []) n o → Put l₁ i (field (pos b)) j l₂ → Put l at (opening 84 start) i l₁ → Put l at (text_line start b) n o
   unfolding text_line
-  text-poured s v c b a = poured-both c (poured-both b a)
+  text_poured s v c b a = poured-both c (poured-both b a)
 
-  pub del-poured : (start : ℕ) {l₁ : List ℕ} {i : ℕ} → Put l₁ i (10 ∷ []) n o → Put l at (opening 68 start) i l₁ → Put l at (del_line start) n o
+  pub del_poured : (start : ℕ) {l₁ : List ℕ} {i : ℕ} → Put l₁ i (10 ∷ []) n o → Put l at (opening 68 start) i l₁ → Put l at (del_line start) n o
   unfolding del_line
-  del-poured start b a = poured-both b a
+  del_poured start b a = poured-both b a
 
-  pub letters-poured : {x y : ℕ} {l₁ l₂ : List ℕ} {i j : ℕ} → Put l₂ j (y ∷ []) n o → Put l₁ i (x ∷ []) j l₂ → Put l at (32 ∷ []) i l₁ → Put l at (letters x y) n o
+  pub letters_poured : {x y : ℕ} {l₁ l₂ : List ℕ} {i j : ℕ} → Put l₂ j (y ∷ []) n o → Put l₁ i (x ∷ []) j l₂ → Put l at (32 ∷ []) i l₁ → Put l at (letters x y) n o
   unfolding letters
-  letters-poured c b a = poured-both c (poured-both b a)
+  letters_poured c b a = poured-both c (poured-both b a)
 
-  pub pair-poured : (a b : ℕ) {l₁ : List ℕ} {i : ℕ} → Put l₁ i (field (pos b)) n o → Put l at (field (pos a)) i l₁ → Put l at (pair a b) n o
+  pub pair_poured : (a b : ℕ) {l₁ : List ℕ} {i : ℕ} → Put l₁ i (field (pos b)) n o → Put l at (field (pos a)) i l₁ → Put l at (pair a b) n o
   unfolding pair
-  pair-poured x y b a = poured-both b a
+  pair_poured x y b a = poured-both b a
 
-  pub refused-poured : (start e p : ℕ) {l₁ l₂ : List ℕ} {i j : ℕ} → Put l₂ j (10 ∷ []) n o → Put l₁ i (pair e p) j l₂ → Put l at (opening 82 start) i l₁ → Put l at (refused_line start e p) n o
+  pub refused_poured : (start e p : ℕ) {l₁ l₂ : List ℕ} {i j : ℕ} → Put l₂ j (10 ∷ []) n o → Put l₁ i (pair e p) j l₂ → Put l at (opening 82 start) i l₁ → Put l at (refused_line start e p) n o
   unfolding refused_line
-  refused-poured start e p c b a = poured-both c (poured-both b a)
+  refused_poured start e p c b a = poured-both c (poured-both b a)
 
   pub parameters_poured : (ps : Parameters) (count : ℕ) (list : List ℤ) {l₁ : List ℕ} {i : ℕ} → Put l₁ i (listed (tail_of ps) count list) n o → Put l at (fields (numbers_of (values_of ps))) i l₁ → Put l at (parameters_words (values_of ps) (tail_of ps) count list) n o
   unfolding parameters_words
@@ -94,13 +93,13 @@ module _ {l o : List ℕ} {at n : ℕ} where
   unfolding command_head
   head_poured start x y b a = poured-both b a
 
-  pub command-poured : (t : TakenCommand) (start : ℕ) (list : List ℤ) {l₁ l₂ : List ℕ} {i j : ℕ} → Put l₂ j (10 ∷ []) n o → Put l₁ i (parameters_words (values_of t.command.parameters) (tail_of t.command.parameters) t.count list) j l₂ → Put l at (command_head start t.command.first t.command.second) i l₁ → Put l at (command_line (tell_taken t) start list) n o
+  pub command_poured : (t : TakenCommand) (start : ℕ) (list : List ℤ) {l₁ l₂ : List ℕ} {i j : ℕ} → Put l₂ j (10 ∷ []) n o → Put l₁ i (parameters_words (values_of t.command.parameters) (tail_of t.command.parameters) t.count list) j l₂ → Put l at (command_head start t.command.first t.command.second) i l₁ → Put l at (command_line (tell_taken t) start list) n o
   unfolding command_line
-  command-poured t s v d b a = poured-both d (poured-both b a)
+  command_poured t s v d b a = poured-both d (poured-both b a)
 
-  pub last-poured : (more : Bool) (k : ℕ) {x : ℕ} {l₁ : List ℕ} {i : ℕ} → Put l₁ i (10 ∷ []) n o → Put l at (opening x k) i l₁ → x ≡ last_letter more → Put l at (last_line more k) n o
+  pub last_poured : (more : Bool) (k : ℕ) {x : ℕ} {l₁ : List ℕ} {i : ℕ} → Put l₁ i (10 ∷ []) n o → Put l at (opening x k) i l₁ → x ≡ last_letter more → Put l at (last_line more k) n o
   unfolding last_line
-  last-poured m k b a e = rw (← e) (poured-both b a)
+  last_poured m k b a e = rw (← e) (poured-both b a)
 
 -- ---- by item
 
@@ -109,7 +108,7 @@ module _ (it : Item) (start : ℕ) (list : List ℤ) where
   unfolding line_of item_of
   line_nothing l at g h = rw g (poured-none l at h)
 
-  pub line_refused_call : (l : List ℕ) (at : ℕ) {e : Refusal} {p : ℕ} → it ≡ Item.Refused e p → length l * 1 < 2 ^ 63 → Put l at (line_of (item_of it) start list) at l
+  pub line_refused_call : (l : List ℕ) (at : ℕ) {e : RefusedAt} → it ≡ Item.Refused e → length l * 1 < 2 ^ 63 → Put l at (line_of (item_of it) start list) at l
   unfolding line_of item_of
   line_refused_call l at g h = rw g (poured-none l at h)
 

@@ -1,7 +1,7 @@
 // The lister's lines: one for each item of a host stream, and the last one. They are poured, so that one stands behind another.
 #![tactic(auto)]
 
-ghost use Rattle.std.specs.Prelude.{◌≡◌, [], ◌∷◌, min, pos};
+ghost use Rattle.std.specs.Prelude.{◌≡◌, [], ◌∷◌, pos};
 ghost use Rattle.parameters.specs.Shapes.{values_of, tail_of};
 ghost use Rattle.parameters.specs.Numbers.{numbers_of};
 ghost use Rattle.commands.specs.Reading.{tell_taken};
@@ -11,7 +11,7 @@ ghost use Rattle.lines.specs.Pouring.{Put};
 ghost use Rattle.lines.specs.Lines.{listed, opening, text_line, del_line, letters, command_head, parameters_words, command_line, pair, refused_line, line_of, last_letter, last_line};
 
 use commands::TakenCommand;
-use parameters::{Parameters, Tail};
+use parameters::Parameters;
 use stream::Item;
 
 // No lent bytes are as many: a count of bytes stops here.
@@ -72,34 +72,21 @@ fn put_number(v: i32, out: &mut [u8], at: usize) -> usize
 fn put_numbers(list: &[i32], out: &mut [u8], at: usize) -> usize
     ensures { Put out.old at (fields list.now) result out.new }
 {
-    let mut i = 0;
     let mut next = at;
-    while i < list.len() {
-        next = put_number(list[i], out, next);
-        i = i + 1;
+    for v in list {
+        next = put_number(*v, out, next);
     }
     next
 }
 
 // ---- the parameters
 
-fn least(a: usize, b: usize) -> usize
-    ensures { result ≡ min a b }
-{
-    if a < b {
-        return a;
-    }
-    b
-}
-
 // The numbers of the fixed values, each with a blank before it.
 fn put_fixed(parameters: Parameters, out: &mut [u8], at: usize) -> usize
     ensures { Put out.old at (fields (numbers_of (values_of parameters))) result out.new }
 {
     let fixed = parameters::numbers_of(parameters);
-    let values = fixed.values;
-    let len = fixed.len;
-    put_numbers(&values[..len], out, at)
+    put_numbers(&fixed.values[..fixed.len], out, at)
 }
 
 // The count and the entries, where the parameters have any.
@@ -107,10 +94,10 @@ fn put_list(parameters: Parameters, count: usize, list: &[i32], out: &mut [u8], 
     ensures { Put out.old at (listed (tail_of parameters) count list.now) result out.new }
 {
     match parameters::tail_of(parameters) {
-        Tail::NoList => at,
-        Tail::ListOf(_) => {
+        None => at,
+        Some(_) => {
             let next = put_natural(count, out, at);
-            let len = least(count, list.len());
+            let len = count.min(list.len());
             put_numbers(&list[..len], out, next)
         }
     }
@@ -174,9 +161,8 @@ fn put_command(taken: TakenCommand, start: usize, list: &[i32], out: &mut [u8], 
     ensures { Put out.old at (command_line (tell_taken taken) start list.now) result out.new }
 {
     let command = taken.command;
-    let parameters = command.parameters;
     let one = put_head(start, command.first, command.second, out, at);
-    let two = put_parameters(parameters, taken.count, list, out, one);
+    let two = put_parameters(command.parameters, taken.count, list, out, one);
     put(b'\n', out, two)
 }
 
@@ -205,21 +191,17 @@ pub fn put_line(item: Item, start: usize, list: &[i32], out: &mut [u8], at: usiz
         Item::Del(_) => put_del(start, out, at),
         Item::Command(taken) => put_command(taken, start, list, out, at),
         Item::RefusedCommand(refused) => {
-            let refusal = refused.refusal;
-            let number = refusals::number(refusal) as usize;
+            let number = refused.refusal.number() as usize;
             put_refused(start, number, refused.place, out, at)
         }
-        Item::Refused(_, _) => at,
+        Item::Refused(_) => at,
     }
 }
 
 fn last_letter(more: bool) -> u8
     ensures { result ≡ last_letter more }
 {
-    if more {
-        return b'M';
-    }
-    b'E'
+    if more { b'M' } else { b'E' }
 }
 
 // "Last: E and the bytes read, or M 4096 if more input follows": `E n` or `M n`, with its newline, from `at` on.

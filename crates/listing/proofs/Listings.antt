@@ -1,6 +1,6 @@
 -- The listing, by what its lines poured.
 use Prim.Native.Nat.{ℕ, zero, suc, ◌+◌, ◌-◌, ◌*◌, ◌^◌, ◌≤◌, ◌<◌, min}
-use mathlib.Core.Path.{◌≡◌, refl, sym, ◌∙◌, ap}
+use mathlib.Core.Path.{◌≡◌, refl, sym, ◌∙◌, ap, subst}
 use mathlib.Core.Bool.{Bool, true, false}
 use mathlib.Core.List.{List, [], ◌++◌, append_assoc, append-nil}
 use native.Mathlib.Omega.{arith}
@@ -12,18 +12,12 @@ use Rattle.memory.specs.declared.Remembered.{Remembered}
 use Rattle.memory.specs.Memory.{fresh_memory}
 use Rattle.refusals.specs.declared.Refusal.{Refusal}
 use Rattle.refusals.specs.declared.Refusal.TheVariants.{TooShort}
-use Rattle.refusals.specs.Answers.{Answer}
+use Rattle.std.specs.Prelude.{Result, Ok, Err}
+use Rattle.refusals.specs.Answers.{Answer, answer_of}
 use Rattle.refusals.proofs.Many.{past_end}
-use Rattle.wire.specs.declared.Written.{Written}
-use Rattle.wire.specs.declared.Written.TheVariants.{Next}
-use Rattle.wire.specs.Sending.{written_of, room_for, write_at, after_write}
-use Rattle.commands.specs.declared.TakenCommand.{TakenCommand}
+use Rattle.wire.specs.Sending.{room_for, write_at, after_write}
 use Rattle.commands.specs.Reading.{ToldCommand}
-use Rattle.stream.specs.declared.TextItem.{TextItem}
-use Rattle.stream.specs.declared.DelItem.{DelItem}
-use Rattle.stream.specs.declared.RefusedItem.{RefusedItem}
 use Rattle.stream.specs.declared.Item.{Item}
-use Rattle.stream.specs.declared.Item.TheVariants.{Nothing, Text, Del}
 use Rattle.stream.specs.Items.{Itemed, item_at, told_item, item_of, after_item, next_start, next_kept}
 use Rattle.lines.specs.Pouring.{far, behind, Put}
 use Rattle.lines.specs.Lines.{line_of, last_line}
@@ -39,9 +33,11 @@ pub record Going (s l : List ℕ) (k : ℕ) (kept : Remembered) (start at : ℕ)
   pub stand : Put l 0 passed at o
   pub whole : passed ++ lines_from k s kept start ≡ lines_of s
 
-pub going_none : (s l : List ℕ) {kept : Remembered} (list : List ℤ) → kept ≡ fresh_memory → length list ≡ 256 → length l * 1 < 2 ^ 63 → Going s l (length s) kept 0 0 list l
+pub going_none : (s l : List ℕ) {kept : Remembered} (list : List ℤ) → kept ≡ fresh_memory → length list ≡ 256 → length l * 1 < 2 ^ 63 → Going s l (length s - 0) kept 0 0 list l
 unfolding lines_of
-going_none s l list e r h = record { room = r; passed = []; stand = poured-none l 0 h; whole = rw e }
+going_none s l list e r h =
+    let z : length s - 0 ≡ length s = omega arith in
+    record { room = r; passed = []; stand = poured-none l 0 h; whole = rw (z, e) }
 
 one_line : (k : ℕ) (s : List ℕ) (kept : Remembered) (start : ℕ) {r : Itemed ToldCommand} → 0 < k → r ≡ told_item (item_at kept s start 256) → lines_from k s kept start ≡ line_of r start (entries_of (item_at kept s start 256)) ++ lines_from (k - 1) s (next_kept kept r) (next_start start r)
 unfolding lines_from line_then
@@ -70,71 +66,24 @@ going_more s l k kept start at list r g h er el long p es ek =
           ∙ g.whole;
     }
 
+-- the same in a `for` loop, which counts the turns that are done
+pub going_next : (s l : List ℕ) (i : ℕ) (kept : Remembered) (start at : ℕ) (list : List ℤ) (r : Item) {o o₁ : List ℕ} {list₁ : List ℤ} {n start₁ : ℕ} {kept₁ : Remembered} → Going s l (length s - i) kept start at list o → i < length s → item_of r ≡ told_item (item_at kept s start (length list)) → list₁ ≡ after_item (item_at kept s start (length list)) list → length list₁ ≡ length list → Put o at (line_of (item_of r) start list₁) n o₁ → start₁ ≡ next_start start (item_of r) → kept₁ ≡ next_kept kept (item_of r) → Going s l (length s - (i + 1)) kept₁ start₁ n list₁ o₁
+going_next s l i kept start at list r {o₁ = o₁} {list₁ = list₁} {n = n} {start₁ = start₁} {kept₁ = kept₁} g h er el long p es ek =
+    let z : length s - i - 1 ≡ length s - (i + 1) = omega arith in
+    subst (λ (k : ℕ). Going s l k kept₁ start₁ n list₁ o₁) z (going_more s l (length s - i) kept start at list r g (omega arith) er el long p es ek)
+
 pub going_end : {s l : List ℕ} {k : ℕ} {kept : Remembered} {start at : ℕ} {list : List ℤ} {o : List ℕ} → Going s l k kept start at list o → k ≤ 0 → Put l 0 (lines_of s) at o
 unfolding lines_from
 going_end {k = zero} g h = rw (sym (append-nil g.passed) ∙ g.whole) at g.stand
 going_end {k = suc k} g h = absurd (omega arith)
 
+pub going_over : {s l : List ℕ} {i : ℕ} {kept : Remembered} {start at : ℕ} {list : List ℤ} {o : List ℕ} → Going s l (length s - i) kept start at list o → length s ≤ i → Put l 0 (lines_of s) at o
+going_over g h = going_end g (omega arith)
+
 pub going_long : {s l : List ℕ} {k : ℕ} {kept : Remembered} {start at : ℕ} {list : List ℤ} {o : List ℕ} → Going s l k kept start at list o → length o ≡ length l
 going_long g = poured-long g.stand
 
-pub ruleset goings = (going_none, going_more, going_end, going_long)
-
--- ---- behind an item
-
-module _ (it : Item) (start : ℕ) where
-  pub start-nothing : it ≡ Nothing → start ≡ next_start start (item_of it)
-  unfolding next_start item_of
-  start-nothing g = rw g
-
-  pub start-text : {t : TextItem} → it ≡ Text t → t.next ≡ next_start start (item_of it)
-  unfolding next_start item_of
-  start-text g = rw g
-
-  pub start-del : {d : DelItem} → it ≡ Del d → d.next ≡ next_start start (item_of it)
-  unfolding next_start item_of
-  start-del g = rw g
-
-  pub start-command : {t : TakenCommand} → it ≡ Item.Command t → t.next ≡ next_start start (item_of it)
-  unfolding next_start item_of
-  start-command g = rw g
-
-  pub start-refused : {i : RefusedItem} → it ≡ Item.RefusedCommand i → i.next ≡ next_start start (item_of it)
-  unfolding next_start item_of
-  start-refused g = rw g
-
-  pub start-no_item : {e : Refusal} {p : ℕ} → it ≡ Item.Refused e p → start ≡ next_start start (item_of it)
-  unfolding next_start item_of
-  start-no_item g = rw g
-
-pub ruleset starts = (start-nothing, start-text, start-del, start-command, start-refused, start-no_item)
-
-module _ (it : Item) (kept : Remembered) where
-  pub kept-nothing : it ≡ Nothing → kept ≡ next_kept kept (item_of it)
-  unfolding next_kept item_of
-  kept-nothing g = rw g
-
-  pub kept-text : {t : TextItem} → it ≡ Text t → kept ≡ next_kept kept (item_of it)
-  unfolding next_kept item_of
-  kept-text g = rw g
-
-  pub kept-del : {d : DelItem} → it ≡ Del d → kept ≡ next_kept kept (item_of it)
-  unfolding next_kept item_of
-  kept-del g = rw g
-
-  pub kept-command : {t : TakenCommand} → it ≡ Item.Command t → t.kept ≡ next_kept kept (item_of it)
-  unfolding next_kept item_of
-  kept-command g = rw g
-
-  pub kept-refused : {i : RefusedItem} → it ≡ Item.RefusedCommand i → i.kept ≡ next_kept kept (item_of it)
-  unfolding next_kept item_of
-  kept-refused g = rw g
-
-  pub kept-no_item : {e : Refusal} {p : ℕ} → it ≡ Item.Refused e p → kept ≡ next_kept kept (item_of it)
-  unfolding next_kept item_of
-  kept-no_item g = rw g
-
-pub ruleset kepts = (kept-nothing, kept-text, kept-del, kept-command, kept-refused, kept-no_item)
+pub ruleset goings = (going_none, going_next, going_over, going_long)
 
 -- ---- the last line
 
@@ -152,24 +101,24 @@ module _ (w l : List ℕ) {q : List ℕ} {m : ℕ} (dry : Put [] 0 w m q) where
   unfolding behind
   size = omega (arith, dry.next)
 
-  pub listing_kept : (e : Refusal) → q ++ l ≡ after_write (written_of (Written.Refused e)) w l 0
-  unfolding written_of after_write
+  pub listing_kept : (e : Refusal) → q ++ l ≡ after_write (answer_of (Err e)) w l 0
+  unfolding answer_of after_write
   listing_kept e = kept
 
-  pub listing_short : length (q ++ l) < m → written_of (Written.Refused TooShort) ≡ write_at w (length l) 0
-  unfolding written_of write_at room_for
+  pub listing_short : length (q ++ l) < m → answer_of (Err TooShort) ≡ write_at w (length l) 0
+  unfolding answer_of write_at room_for
   listing_short h =
       let z = size in
       let i : length l < m = rw kept at h in
       rw (lt-leb (0 + length w) (length l) (omega arith))
 
   module _ {o : List ℕ} {n : ℕ} (wet : Put (q ++ l) 0 w n o) where
-    pub listing_stands : o ≡ after_write (written_of (Next n)) w l 0
-    unfolding written_of after_write
+    pub listing_stands : o ≡ after_write (answer_of (Ok n)) w l 0
+    unfolding answer_of after_write
     listing_stands = rw kept at wet.stands
 
-    pub listing_fits : m ≤ length (q ++ l) → written_of (Next n) ≡ write_at w (length l) 0
-    unfolding written_of write_at room_for behind
+    pub listing_fits : m ≤ length (q ++ l) → answer_of (Ok n) ≡ write_at w (length l) 0
+    unfolding answer_of write_at room_for behind
     listing_fits h =
         let i : m ≤ length l = rw kept at h in
         let j : length l < far = rw kept at wet.room in
@@ -192,7 +141,7 @@ module _ (input : List ℕ) where
     pub more_told : (room : ℕ) {q : Answer ℕ} → q ≡ write_at (listing_with true (take 4096 input)) room 0 → q ≡ write_at (listing_of input) room 0
     more_told room j = rw more_is j
 
-    pub more_stands : (r : Written) (l : List ℕ) {o : List ℕ} → o ≡ after_write (written_of r) (listing_with true (take 4096 input)) l 0 → o ≡ after_write (written_of r) (listing_of input) l 0
+    pub more_stands : (r : Result ℕ Refusal) (l : List ℕ) {o : List ℕ} → o ≡ after_write (answer_of r) (listing_with true (take 4096 input)) l 0 → o ≡ after_write (answer_of r) (listing_of input) l 0
     more_stands r l j = rw more_is j
 
   module _ (h : length input ≤ 4096) where
@@ -203,7 +152,7 @@ module _ (input : List ℕ) where
     pub all_told : (room : ℕ) {q : Answer ℕ} → q ≡ write_at (listing_with false input) room 0 → q ≡ write_at (listing_of input) room 0
     all_told room j = rw all_is j
 
-    pub all_stands : (r : Written) (l : List ℕ) {o : List ℕ} → o ≡ after_write (written_of r) (listing_with false input) l 0 → o ≡ after_write (written_of r) (listing_of input) l 0
+    pub all_stands : (r : Result ℕ Refusal) (l : List ℕ) {o : List ℕ} → o ≡ after_write (answer_of r) (listing_with false input) l 0 → o ≡ after_write (answer_of r) (listing_of input) l 0
     all_stands r l j = rw all_is j
 
 pub ruleset inputs = (front_long, more_told, more_stands, all_told, all_stands)

@@ -3,7 +3,8 @@
 #![tactic(auto)]
 
 ghost use Rattle.std.specs.Prelude.{◌≡◌, length};
-ghost use Rattle.wire.specs.Sending.{write_at, after_write, written_of};
+ghost use Rattle.refusals.specs.Answers.{answer_of};
+ghost use Rattle.wire.specs.Sending.{write_at, after_write};
 ghost use Rattle.stream.specs.Items.{item_of, next_start, next_kept};
 ghost use Rattle.lines.specs.Pouring.{Put};
 ghost use Rattle.listing.specs.Listing.{lines_of, listing_with, listing_of};
@@ -11,36 +12,33 @@ ghost use Rattle.listing.specs.Listing.{lines_of, listing_with, listing_of};
 use memory::Remembered;
 use refusals::Refusal;
 use stream::Item;
-use wire::Written;
 
 // "It reads up to 4,096 bytes of standard input": what stands behind them tells only that more follows.
 const MOST_BYTES: usize = 4096;
 
 // Where the next item starts: where this one ends.
+#[tactic(auto, unfolding(stream::specs::Items::item_of, stream::specs::Items::next_start))]
 fn next_start(item: Item, start: usize) -> usize
     ensures { result ≡ next_start start (item_of item) }
 {
     match item {
-        Item::Nothing => start,
         Item::Text(text) => text.next,
         Item::Del(del) => del.next,
         Item::Command(taken) => taken.next,
         Item::RefusedCommand(refused) => refused.next,
-        Item::Refused(_, _) => start,
+        Item::Nothing | Item::Refused(_) => start,
     }
 }
 
 // What is remembered there: "The remembered point after a refused command is that before it."
+#[tactic(auto, unfolding(stream::specs::Items::item_of, stream::specs::Items::next_kept))]
 fn next_kept(item: Item, kept: Remembered) -> Remembered
     ensures { result ≡ next_kept kept (item_of item) }
 {
     match item {
-        Item::Nothing => kept,
-        Item::Text(_) => kept,
-        Item::Del(_) => kept,
         Item::Command(taken) => taken.kept,
         Item::RefusedCommand(refused) => refused.kept,
-        Item::Refused(_, _) => kept,
+        _ => kept,
     }
 }
 
@@ -52,13 +50,11 @@ fn put_lines(s: &[u8], out: &mut [u8]) -> usize
     let mut kept = memory::fresh();
     let mut start = 0;
     let mut at = 0;
-    let mut turns = s.len();
-    while turns > 0 {
+    for _ in 0..s.len() {
         let item = stream::read_item(kept, s, start, &mut list);
         at = lines::put_line(item, start, &list, out, at);
         start = next_start(item, start);
         kept = next_kept(item, kept);
-        turns = turns - 1;
     }
     at
 }
@@ -71,20 +67,19 @@ fn put_listing(s: &[u8], more: bool, out: &mut [u8]) -> usize
     lines::put_last(more, s.len(), out, at)
 }
 
-fn write_listing(s: &[u8], more: bool, out: &mut [u8]) -> Written
-    ensures { (written_of result ≡ write_at (listing_with more s.now) (length out.old) 0) × (out.new ≡ after_write (written_of result) (listing_with more s.now) out.old 0) }
+fn write_listing(s: &[u8], more: bool, out: &mut [u8]) -> Result<usize, Refusal>
+    ensures { (answer_of result ≡ write_at (listing_with more s.now) (length out.old) 0) × (out.new ≡ after_write (answer_of result) (listing_with more s.now) out.old 0) }
 {
     let size = put_listing(s, more, &mut out[..0]);
     if size > out.len() {
-        return Written::Refused(Refusal::TooShort);
+        return Err(Refusal::TooShort);
     }
-    let n = put_listing(s, more, out);
-    Written::Next(n)
+    Ok(put_listing(s, more, out))
 }
 
 // The listing of `input`, of which the first 4,096 bytes are read, or 7.
-pub fn listing(input: &[u8], out: &mut [u8]) -> Written
-    ensures { (written_of result ≡ write_at (listing_of input.now) (length out.old) 0) × (out.new ≡ after_write (written_of result) (listing_of input.now) out.old 0) }
+pub fn listing(input: &[u8], out: &mut [u8]) -> Result<usize, Refusal>
+    ensures { (answer_of result ≡ write_at (listing_of input.now) (length out.old) 0) × (out.new ≡ after_write (answer_of result) (listing_of input.now) out.old 0) }
 {
     if input.len() > MOST_BYTES {
         return write_listing(&input[..MOST_BYTES], true, out);

@@ -9,43 +9,42 @@ use mir.Val.{SFits, to_z, of_z}
 use mir.Facts.{to_z-of_z}
 use Rattle.coordinates.specs.Coordinates.{point_given}
 use Rattle.coordinates.proofs.Sides.{point-given}
+use Rattle.std.specs.Prelude.{Result, Ok, Err}
 use Rattle.refusals.specs.declared.Refusal.{Refusal}
 use Rattle.refusals.specs.Refusals.{number_of}
 use Rattle.memory.specs.declared.Point.{Point}
 use Rattle.beam.specs.declared.Beam.{Beam}
-use Rattle.beam.specs.declared.Setting.{Setting}
-use Rattle.beam.specs.declared.Setting.TheVariants as settings
-use Rattle.beam.specs.Settings.{Settled, setting_of, set_bits, set_viewport, set_beam, make_step}
-use Rattle.pixels.specs.declared.Drawing.{Drawing}
-use Rattle.pixels.specs.declared.Drawing.TheVariants as drawings
-use Rattle.pixels.specs.Writes.{WriteOutcome, drawing_of, draw_raster, raster_surface, draw_runs, runs_surface}
+use Rattle.beam.specs.Settings.{Settled, settled_by, set_bits, set_viewport, set_beam, make_step}
+use Rattle.pixels.specs.declared.Drawn.{Drawn}
+use Rattle.pixels.specs.Writes.{WriteOutcome, drawn_by, draw_raster, raster_surface, draw_runs, runs_surface}
 use Rattle.pixel_calls.specs.Fields.{beam_in, fields_of}
 use Rattle.pixel_calls.specs.Promises.{HandsSettled, HandsWritten}
 
-pub settled-so : (s : Setting) {d : Settled} {n : ℕ} {l : List ℕ} → setting_of s ≡ d → HandsSettled (setting_of s) n l → HandsSettled d n l
+pub settled-so : (s : Settled) {d : Settled} {n : ℕ} {l : List ℕ} → s ≡ d → HandsSettled s n l → HandsSettled d n l
 settled-so s e h = rw e at h
 
-pub written-so : (s : Drawing) {d : WriteOutcome} {n k : ℕ} {l : List ℕ} → drawing_of s ≡ d → HandsWritten (drawing_of s) n k l → HandsWritten d n k l
+pub written-so : (s : WriteOutcome) {d : WriteOutcome} {n k : ℕ} {l : List ℕ} → s ≡ d → HandsWritten s n k l → HandsWritten d n k l
 written-so s e h = rw e at h
 
 -- ---- by the answer's case
 
-module _ {b : Beam} {l : List ℕ} (el : l ≡ fields_of b) where
-  pub when_set : {s : Setting} → s ≡ settings.Set b → HandsSettled (setting_of s) 0 l
-  unfolding setting_of
-  when_set e = rw e (record { same_number = refl; same-record = el })
+module _ (came : Beam) {s : Result Beam Refusal} where
+  pub when_set : {b : Beam} {l : List ℕ} → s ≡ Ok b → l ≡ fields_of b → HandsSettled (settled_by came s) 0 l
+  unfolding settled_by
+  when_set e el = rw e (record { same_number = refl; same-record = el })
 
-  pub when_not_set : {s : Setting} {f : Refusal} {n : ℕ} → s ≡ settings.Refused f b → n ≡ number_of f → HandsSettled (setting_of s) n l
-  unfolding setting_of
-  when_not_set e en = rw e (record { same_number = en; same-record = el })
+  pub when_not_set : {f : Refusal} {n : ℕ} {l : List ℕ} → s ≡ Err f → n ≡ number_of f → l ≡ fields_of came → HandsSettled (settled_by came s) n l
+  unfolding settled_by
+  when_not_set e en el = rw e (record { same_number = en; same-record = el })
 
-  pub when_drawn : {s : Drawing} {k : ℕ} → s ≡ drawings.Drawn k b → HandsWritten (drawing_of s) 0 k l
-  unfolding drawing_of
-  when_drawn e = rw e (record { same_number = refl; same_count = refl; same-record = el })
+module _ (came : Beam) {s : Result Drawn Refusal} where
+  pub when_drawn : {d : Drawn} {l : List ℕ} → s ≡ Ok d → l ≡ fields_of d.beam → HandsWritten (drawn_by came s) 0 d.count l
+  unfolding drawn_by
+  when_drawn e el = rw e (record { same_number = refl; same_count = refl; same-record = el })
 
-  pub when_not_drawn : {s : Drawing} {f : Refusal} {n : ℕ} → s ≡ drawings.Refused f b → n ≡ number_of f → HandsWritten (drawing_of s) n 0 l
-  unfolding drawing_of
-  when_not_drawn e en = rw e (record { same_number = en; same_count = refl; same-record = el })
+  pub when_not_drawn : {f : Refusal} {n : ℕ} {l : List ℕ} → s ≡ Err f → n ≡ number_of f → l ≡ fields_of came → HandsWritten (drawn_by came s) n 0 l
+  unfolding drawn_by
+  when_not_drawn e en el = rw e (record { same_number = en; same_count = refl; same-record = el })
 
 -- ---- what is handed in
 

@@ -1,5 +1,6 @@
 -- Two conforming answers of `read_item` coincide: what an item says fixes the item.
 use mathlib.Core.Path.{◌≡◌, refl, ap}
+use Rattle.refusals.specs.declared.Refusal.{Refusal}
 use Rattle.refusals.proofs.Coinciding.{named, named_back, coincide}
 use Rattle.commands.specs.Reading.{ToldCommand}
 use Rattle.commands.proofs.Coinciding.{taken_for, taken-for}
@@ -13,7 +14,7 @@ item_back (text b n) = Text (record { byte = b; next = n })
 item_back (del n) = Del (record { next = n })
 item_back (command t) = Item.Command (taken_for t)
 item_back (refused_command e p n k) = Item.RefusedCommand (record { refusal = named e; place = p; next = n; kept = k })
-item_back (refused_call e p) = Item.Refused (named e) p
+item_back (refused_call e p) = Item.Refused (record { refusal = named e; place = p })
 
 item-same : (i : Item) → item_back (item_of i) ≡ i
 unfolding item_of item_back
@@ -22,7 +23,7 @@ item-same (Text t) = refl
 item-same (Del d) = refl
 item-same (Item.Command t) = ap (λ x. Item.Command x) (taken-for t)
 item-same (Item.RefusedCommand r) = ap (λ x. Item.RefusedCommand (record { refusal = x; place = r.place; next = r.next; kept = r.kept })) (named_back r.refusal)
-item-same (Item.Refused e p) = ap (λ x. Item.Refused x p) (named_back e)
+item-same (Item.Refused e) = ap (λ (x : Refusal). Item.Refused (record { refusal = x; place = e.place })) (named_back e.refusal)
 
 pub items_coincide : {x y : Item} {d : Itemed ToldCommand} → item_of x ≡ d → item_of y ≡ d → x ≡ y
 items_coincide = coincide item_of item_back item-same

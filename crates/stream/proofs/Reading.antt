@@ -4,27 +4,27 @@ use mathlib.Core.Path.{◌≡◌, refl, sym, ◌∙◌, ap}
 use mathlib.Core.Bool.{Bool, true, false, not}
 use mathlib.Core.List.{List}
 use native.Mathlib.Omega.{arith}
-use borrow.Author.Tests.{lt-ltb, le-ltb, eq-eqb, ne_eqb}
+use borrow.Author.Tests.{eq-eqb, ne_eqb}
 use lib.Dec.{eqb}
 use lib.ListN.{length, get_or}
 use lib.IntN.{ℤ}
 use Rattle.memory.specs.declared.DelMode.{DelMode}
 use Rattle.memory.specs.declared.DelMode.TheVariants.{Data, Filler}
 use Rattle.memory.specs.declared.Remembered.{Remembered}
-use Rattle.memory.specs.Memory.{inside}
+use Rattle.std.specs.Prelude.{Result, Ok, Err}
 use Rattle.refusals.specs.declared.Refusal.{Refusal}
-use Rattle.refusals.specs.declared.Refusal.TheVariants.{NotValid}
+use Rattle.refusals.specs.declared.RefusedAt.{RefusedAt}
+use Rattle.refusals.specs.declared.Refusal.TheVariants.{TooShort}
 use Rattle.refusals.specs.Refusals.{number_of}
 use Rattle.refusals.specs.Answers.{Answer, done, refused}
 use Rattle.refusals.proofs.Cases.{by_pick}
+use Rattle.refusals.proofs.Coinciding.{named, named_back}
 use Rattle.refusals.proofs.Passing.{Passing, passing_none, passing_more, passing_stop, passing_end}
 use Rattle.commands.specs.declared.TakenCommand.{TakenCommand}
-use Rattle.commands.specs.declared.CommandRead.{CommandRead}
-use Rattle.commands.specs.declared.CommandRead.TheVariants.{Whole}
 use Rattle.commands.specs.Reading.{Meaning, ToldCommand, tell, told, command_of, command_at, after_entries}
 use Rattle.stream.specs.declared.Item.{Item}
-use Rattle.stream.specs.declared.Item.TheVariants.{Nothing, Text, Del}
-use Rattle.stream.specs.Items.{Itemed, nothing, command, refused_call, no_escape, passed_from, is_filler, byte_item, as_item, command_item, item_at, told_item, item_of, after_item}
+use Rattle.stream.specs.declared.Item.TheVariants.{Text, Del}
+use Rattle.stream.specs.Items.{command, no_escape, passed_from, is_filler, byte_item, as_item, command_item, told_item, item_of, after_item}
 
 -- ---- passing over
 
@@ -72,6 +72,9 @@ byte_list m b n l = by_pick (λ i. l ≡ after_item i l) (is_filler m b) _ _ (λ
 
 -- ---- the item of a command
 
+too_short : (e : Refusal) → number_of e ≡ 7 → e ≡ TooShort
+too_short e h = sym (named_back e) ∙ ap named h
+
 apart : {A : Type 0} {t : A} {e p : ℕ} → done t ≡ refused e p → ⊥
 apart q = let z : ◌≡◌ {A = ℕ} 0 1 = cc in omega arith
 
@@ -96,90 +99,23 @@ module _ (kept : Remembered) (s : List ℕ) (start room : ℕ) where
   unfolding command_item
   list_kept l j = j ∙ list_same kept s (command_at kept s start room) l
 
-  module _ {r : CommandRead} (er : command_of r ≡ told (command_at kept s start room)) where
-    pub item-whole : {t : TakenCommand} → r ≡ Whole t → item_of (Item.Command t) ≡ told_item (command_item kept s start room)
+  module _ {r : Result TakenCommand RefusedAt} (er : command_of r ≡ told (command_at kept s start room)) where
+    pub item-whole : {t : TakenCommand} → r ≡ Ok t → item_of (Item.Command t) ≡ told_item (command_item kept s start room)
     unfolding command_item item_of command_of
     item-whole g = whole_of kept s (command_at kept s start room) _ (sym (rw g) ∙ er)
 
-    module _ {x : Refusal} {p : ℕ} (g : r ≡ CommandRead.Refused x p) {v : ℕ} (ev : v ≡ number_of x) where
-      refused-there : command_at kept s start room ≡ refused (number_of x) p
+    module _ {x : RefusedAt} (g : r ≡ Err x) where
+      refused-there : command_at kept s start room ≡ refused (number_of x.refusal) x.place
       unfolding command_of
-      refused-there = refused-of (command_at kept s start room) (number_of x) p (sym (rw g) ∙ er)
+      refused-there = refused-of (command_at kept s start room) (number_of x.refusal) x.place (sym (rw g) ∙ er)
 
-      pub item-refused_call : v ≡ 7 → item_of (Item.Refused x p) ≡ told_item (command_item kept s start room)
+      pub item_refused_call : x.refusal ≡ TooShort → item_of (Item.Refused x) ≡ told_item (command_item kept s start room)
       unfolding command_item item_of told_item
-      item-refused_call h = rw (refused-there, ← ev, eq-eqb v 7 h)
+      item_refused_call h = rw (refused-there, h)
 
-      pub item-refused_command : {n : ℕ} → (v ≡ 7 → ⊥) → n ≡ passed_from s p → item_of (Item.RefusedCommand (record { refusal = x; place = p; next = n; kept = kept })) ≡ told_item (command_item kept s start room)
+      pub item_refused_command : {n : ℕ} → (x.refusal ≡ TooShort → ⊥) → n ≡ passed_from s x.place → item_of (Item.RefusedCommand (record { refusal = x.refusal; place = x.place; next = n; kept = kept })) ≡ told_item (command_item kept s start room)
       unfolding command_item item_of told_item
-      item-refused_command h j = rw (refused-there, ← ev, ne_eqb v 7 h, j)
-
--- ---- any item
-
-module _ (kept : Remembered) (s : List ℕ) (start room : ℕ) where
-  module _ (h : length s < start) where
-    past : item_at kept s start room ≡ refused_call 8 0
-    unfolding item_at
-    past = rw (lt-ltb (length s) start h)
-
-    pub past_item : item_of (Item.Refused NotValid 0) ≡ told_item (item_at kept s start room)
-    unfolding item_of told_item
-    past_item = rw past
-
-    pub past_list : (l : List ℤ) → l ≡ after_item (item_at kept s start room) l
-    unfolding after_item
-    past_list l = rw past
-
-  module _ (h : start ≤ length s) {t : Bool} (et : t ≡ inside kept.point) where
-    module _ (g : t ≡ false) where
-      outside : item_at kept s start room ≡ refused_call 8 0
-      unfolding item_at
-      outside = rw (le-ltb (length s) start h, ← et, g)
-
-      pub outside-item : item_of (Item.Refused NotValid 0) ≡ told_item (item_at kept s start room)
-      unfolding item_of told_item
-      outside-item = rw outside
-
-      pub outside-list : (l : List ℤ) → l ≡ after_item (item_at kept s start room) l
-      unfolding after_item
-      outside-list l = rw outside
-
-    module _ (g : t ≡ true) where
-      module _ (k : length s ≤ start) where
-        at-end : item_at kept s start room ≡ nothing
-        unfolding item_at
-        at-end = rw (le-ltb (length s) start h, ← et, g, le-ltb start (length s) k)
-
-        pub end-item : item_of Nothing ≡ told_item (item_at kept s start room)
-        unfolding item_of told_item
-        end-item = rw at-end
-
-        pub end_list : (l : List ℤ) → l ≡ after_item (item_at kept s start room) l
-        unfolding after_item
-        end_list l = rw at-end
-
-      module _ (k : start < length s) where
-        module _ (e : get_or s start 0 ≡ 27 → ⊥) where
-          plain : item_at kept s start room ≡ byte_item kept.mode (get_or s start 0) (start + 1)
-          unfolding item_at
-          plain = rw (le-ltb (length s) start h, ← et, g, lt-ltb start (length s) k, ne_eqb (get_or s start 0) 27 e)
-
-          pub byte-item : {m : DelMode} {q : Itemed ToldCommand} → m ≡ kept.mode → q ≡ told_item (byte_item m (get_or s start 0) (start + 1)) → q ≡ told_item (item_at kept s start room)
-          byte-item em j = rw (plain, ← em) j
-
-          pub byte_kept : (l : List ℤ) → l ≡ after_item (item_at kept s start room) l
-          byte_kept l = rw plain (byte_list kept.mode (get_or s start 0) (start + 1) l)
-
-        module _ (e : get_or s start 0 ≡ 27) where
-          escape : item_at kept s start room ≡ command_item kept s start room
-          unfolding item_at
-          escape = rw (le-ltb (length s) start h, ← et, g, lt-ltb start (length s) k, eq-eqb (get_or s start 0) 27 e)
-
-          pub escape_item : {q : Itemed ToldCommand} → q ≡ told_item (command_item kept s start room) → q ≡ told_item (item_at kept s start room)
-          escape_item j = rw escape j
-
-          pub escape_list : (l : List ℤ) {o : List ℤ} → o ≡ after_item (command_item kept s start room) l → o ≡ after_item (item_at kept s start room) l
-          escape_list l j = rw escape j
+      item_refused_command h j = rw (refused-there, ne_eqb (number_of x.refusal) 7 (λ e. h (too_short x.refusal e)), j)
 
 -- the item that starts with an ESC
-pub ruleset escape_items = (list_kept, item-whole, item-refused_call, item-refused_command)
+pub ruleset escape_items = (list_kept, item-whole, item_refused_call, item_refused_command)

@@ -76,7 +76,7 @@ item_of (Text t) = text t.byte t.next
 item_of (Del d) = del d.next
 item_of (Item.Command t) = command (tell_taken t)
 item_of (Item.RefusedCommand r) = refused_command (number_of r.refusal) r.place r.next r.kept
-item_of (Item.Refused e p) = refused_call (number_of e) p
+item_of (Item.Refused e) = refused_call (number_of e.refusal) e.place
 
 unfoldable pub after_item : Itemed Meaning → List ℤ → List ℤ
 after_item nothing l = l

@@ -4,9 +4,9 @@
 ghost use Rattle.std.specs.Prelude.{◌≡◌, length};
 ghost use Rattle.stream.specs.Items.{item_of, is_filler, byte_item, command_item, item_at, told_item, after_item, passed_from};
 
-use commands::{CommandRead, TakenCommand};
+use commands::TakenCommand;
 use memory::{DelMode, Remembered};
-use refusals::Refusal;
+use refusals::{Refusal, RefusedAt};
 
 // A byte outside commands, and where the next item starts.
 #[derive(Clone, Copy)]
@@ -30,6 +30,7 @@ pub struct DelItem {
     pub next: usize,
 }
 
+// It is no Option in a Result: `lines::put_line` answers on each of these, and the calls for other languages number them.
 #[derive(Clone, Copy)]
 pub enum Item {
     // no item is left
@@ -39,47 +40,40 @@ pub enum Item {
     // a command, with its `parameters::Parameters`
     Command(TakenCommand),
     RefusedCommand(RefusedItem),
-    // nothing was read and there is no item: the refusal and its place
-    Refused(Refusal, usize),
+    // nothing was read and there is no item
+    Refused(RefusedAt),
 }
 
 // The first place from `at` on that holds an ESC, or the end.
+#[tactic(auto, using(crate::proofs::Reading::passing))]
 fn next_escape(s: &[u8], at: usize) -> usize
     ensures { result ≡ passed_from s.now at }
 {
-    let mut i = at;
-    while i < s.len() {
+    for i in at..s.len() {
         if s[i] == 27 {
             return i;
         }
-        i = i + 1;
     }
-    i
+    at.max(s.len())
 }
 
 // Whether a byte outside commands is a DEL that makes an item of its own.
+#[tactic(auto, using(refusals::proofs::Rules::tests), unfolding(crate::specs::Items::is_filler))]
 fn is_filler(mode: DelMode, b: u8) -> bool
     ensures { result ≡ is_filler mode b }
 {
-    match mode {
-        DelMode::Data => false,
-        DelMode::Filler => b == 127,
-    }
+    mode == DelMode::Filler && b == 127
 }
 
 // A byte outside commands.
+#[tactic(auto, using(refusals::proofs::Rules::tests), unfolding(crate::specs::Items::item_of, crate::specs::Items::told_item))]
 fn byte_item(mode: DelMode, b: u8, next: usize) -> Item
     ensures { item_of result ≡ told_item (byte_item mode b next) }
 {
     if is_filler(mode, b) {
-        let del = DelItem { next: next };
-        return Item::Del(del);
+        return Item::Del(DelItem { next });
     }
-    let text = TextItem {
-        byte: b,
-        next: next,
-    };
-    Item::Text(text)
+    Item::Text(TextItem { byte: b, next })
 }
 
 // The item that starts with the ESC at `start`. The list's being too short makes no item.
@@ -88,42 +82,31 @@ fn command_item(kept: Remembered, s: &[u8], start: usize, list: &mut [i32]) -> I
     ensures { (item_of result ≡ told_item (command_item kept s.now start (length list.old))) × (list.new ≡ after_item (command_item kept s.now start (length list.old)) list.old) }
 {
     match commands::read_command(kept, s, start, list) {
-        CommandRead::Whole(taken) => Item::Command(taken),
-        CommandRead::Refused(e, p) => {
-            if refusals::number(e) == 7 {
-                return Item::Refused(e, p);
-            }
-            let next = next_escape(s, p);
-            let refused = RefusedItem {
-                refusal: e,
-                place: p,
-                next: next,
-                kept: kept,
-            };
-            Item::RefusedCommand(refused)
-        }
+        Ok(taken) => Item::Command(taken),
+        Err(e) if e.refusal == Refusal::TooShort => Item::Refused(e),
+        Err(e) => Item::RefusedCommand(RefusedItem {
+            refusal: e.refusal,
+            place: e.place,
+            next: next_escape(s, e.place),
+            kept,
+        }),
     }
 }
 
 // The item that starts at `start`. First 8 at place 0 for a start past the end or a remembered point outside 0..4095.
+#[tactic(auto, using(refusals::proofs::Rules::tests), unfolding(crate::specs::Items::item_of, crate::specs::Items::told_item, crate::specs::Items::item_at, crate::specs::Items::after_item))]
 pub fn read_item(kept: Remembered, s: &[u8], start: usize, list: &mut [i32]) -> Item
     ensures { (item_of result ≡ told_item (item_at kept s.now start (length list.old))) × (list.new ≡ after_item (item_at kept s.now start (length list.old)) list.old) }
 {
-    let point = kept.point;
-    if start > s.len() {
-        return Item::Refused(Refusal::NotValid, 0);
+    if start > s.len() || !memory::is_inside(kept.point) {
+        return Item::Refused(Refusal::NotValid.at(0));
     }
-    if memory::is_inside(point) {
-        if start >= s.len() {
-            return Item::Nothing;
-        }
-        let b = s[start];
-        if b == 27 {
-            return command_item(kept, s, start, list);
-        }
-        let next = start + 1;
-        let mode = kept.mode;
-        return byte_item(mode, b, next);
+    if start == s.len() {
+        return Item::Nothing;
     }
-    Item::Refused(Refusal::NotValid, 0)
+    let b = s[start];
+    if b == 27 {
+        return command_item(kept, s, start, list);
+    }
+    byte_item(kept.mode, b, start + 1)
 }

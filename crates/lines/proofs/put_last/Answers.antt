@@ -1,5 +1,5 @@
-use Rattle.lines.proofs.Lined.{last-poured}
+use Rattle.lines.proofs.Lined.{last_poured}
 use Rattle.lines.proofs.put_last.Goals as goal
 
 pub returns : goal.returns
-returns c = search last-poured
+returns c = search last_poured

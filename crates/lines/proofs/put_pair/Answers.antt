@@ -1,5 +1,5 @@
-use Rattle.lines.proofs.Lined.{pair-poured}
+use Rattle.lines.proofs.Lined.{pair_poured}
 use Rattle.lines.proofs.put_pair.Goals as goal
 
 pub returns : goal.returns
-returns c = search pair-poured
+returns c = search pair_poured

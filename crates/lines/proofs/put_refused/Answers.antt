@@ -1,5 +1,5 @@
-use Rattle.lines.proofs.Lined.{refused-poured}
+use Rattle.lines.proofs.Lined.{refused_poured}
 use Rattle.lines.proofs.put_refused.Goals as goal
 
 pub returns : goal.returns
-returns c = search refused-poured
+returns c = search refused_poured

@@ -2,11 +2,11 @@ use borrow.Author.Rules.{rules}
 use Rattle.listing.proofs.Listings.{goings}
 use Rattle.listing.proofs.put_lines.Goals as goal
 
-pub loop-turns-init : goal.loop-turns-init
-loop-turns-init c = search (rules, goings)
+pub loop-init : goal.loop-init
+loop-init c = search (rules, goings)
 
-pub loop-turns-preserved : goal.loop-turns-preserved
-loop-turns-preserved c = search (rules, goings)
+pub loop-preserved : goal.loop-preserved
+loop-preserved c = search (rules, goings)
 
 pub shape_of-out : goal.shape_of-out
 shape_of-out c = search (rules, goings)

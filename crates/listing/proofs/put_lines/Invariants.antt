@@ -1,8 +1,7 @@
+use Prim.Native.Nat.{◌-◌}
+use lib.ListN.{length}
 use Rattle.listing.proofs.Listings.{Going}
 use Rattle.listing.proofs.put_lines.Given as goal
 
-abbrev pub invariant-loop-turns : goal.invariant-loop-turns
-invariant-loop-turns l = Going l.s l.initial.out l.turns l.kept l.start l.at l.list l.out
-
-abbrev pub decreases-loop-turns : goal.decreases-loop-turns
-decreases-loop-turns l = l.turns
+abbrev pub invariant-loop : goal.invariant-loop
+invariant-loop l = Going l.s l.initial.out (length l.s - l.counter) l.kept l.start l.at l.list l.out
