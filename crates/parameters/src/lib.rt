@@ -69,12 +69,12 @@ pub struct TakenParameters {
     pub kept: Remembered,
 }
 
-// Two integers or characters, and where reading goes on.
+// Two integers or characters, and where reading goes on. It is public since the laws of whole commands speak of it.
 #[derive(Clone, Copy)]
-struct TwoEntries {
-    one: i32,
-    two: i32,
-    next: usize,
+pub struct TwoEntries {
+    pub one: i32,
+    pub two: i32,
+    pub next: usize,
 }
 
 // ---- entries
