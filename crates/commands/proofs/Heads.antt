@@ -28,10 +28,6 @@ use Rattle.commands.specs.Reading.{Letters, letters_of, head_of, head_at, Meanin
 -- ---- the body
 
 module _ (kept : Remembered) (l : Letters) (s : List ℕ) (start room : ℕ) {r : Result TakenParameters RefusedAt} (er : look_of r ≡ parameters_at kept (shape_of l.kind) s l.next) where
-  pub body_refused : {x : RefusedAt} → r ≡ Err x → command_of (Err x) ≡ told (body_at kept l s start room)
-  unfolding body_at told command_of look_of
-  body_refused g = rw (← er, g)
-
   module _ {t : TakenParameters} (g : r ≡ Ok t) where
     pub body_short : {x : RefusedAt} → room < t.run.count → x ≡ record { refusal = TooShort; place = start } → command_of (Err x) ≡ told (body_at kept l s start room)
     unfolding body_at told command_of look_of
@@ -70,8 +66,6 @@ pub body_entries : (kept : Remembered) (h : Letters) (s : List ℕ) (start : ℕ
 unfolding body_at
 body_entries kept h s start l j = j ∙ body-after kept h s start l (parameters_at kept (shape_of h.kind) s h.next)
 
-pub ruleset bodies = (body_refused, body_short, body_whole, body_entries)
-
 -- ---- the whole command
 
 module _ (kept : Remembered) (s : List ℕ) (start room : ℕ) where
@@ -79,21 +73,9 @@ module _ (kept : Remembered) (s : List ℕ) (start room : ℕ) where
   unfolding command_at told command_of
   past_end h = rw (le-ltb start (length s) h)
 
-  pub kept-past : (l : List ℤ) → length s ≤ start → l ≡ after_entries (command_at kept s start room) l
-  unfolding command_at after_entries
-  kept-past l h = rw (le-ltb start (length s) h)
-
   module _ {m : DelMode} (r : Result TakenLetters RefusedAt) (h : start < length s) (em : m ≡ kept.mode) (er : head_of r ≡ head_at m s (start + 1)) where
     there : head_of r ≡ head_at kept.mode s (start + 1)
     there = rw em at er
-
-    pub head_none : {x : RefusedAt} → r ≡ Err x → command_of (Err x) ≡ told (command_at kept s start room)
-    unfolding command_at told command_of head_of
-    head_none g = rw (lt-ltb start (length s) h, ← there, g)
-
-    pub kept-none : (l : List ℤ) {x : RefusedAt} → r ≡ Err x → l ≡ after_entries (command_at kept s start room) l
-    unfolding command_at after_entries head_of
-    kept-none l g = rw (lt-ltb start (length s) h, ← there, g)
 
     module _ {l : TakenLetters} (g : r ≡ Ok l) where
       pub command_is : {q : Answer ToldCommand} → q ≡ told (body_at kept (letters_of l) s start room) → q ≡ told (command_at kept s start room)

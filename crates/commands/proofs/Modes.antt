@@ -3,14 +3,12 @@ use Prim.Native.Nat.{ℕ}
 use mathlib.Core.Path.{◌≡◌, refl, ◌∙◌, ap}
 use mathlib.Core.Bool.{Bool, true, false}
 use mathlib.Core.List.{List, [], ◌∷◌, ◌++◌}
-use borrow.Author.Tests.{ne_eqb}
 use lib.ListN.{get_or, take}
 use lib.IntN.{ℤ, pos, nat_abs}
 use mir.Syntax.{w32}
 use mir.Val.{SFits, to_z, of_z}
 use mir.Facts.{to_z-of_z}
 use Rattle.memory.specs.declared.DelMode.{DelMode}
-use Rattle.memory.specs.declared.DelMode.TheVariants.{Data, Filler}
 use Rattle.memory.specs.declared.Remembered.{Remembered}
 use Rattle.memory.specs.Memory.{in_mode}
 use Rattle.signs.specs.Signs.{is_negative}
@@ -36,27 +34,9 @@ module _ (mode : DelMode) (v : ℤ) (f : SFits w32 v) {t : Bool} (et : t ≡ is_
   sign : t ≡ is_negative v
   sign = rw (to_z-of_z f) at et
 
-  pub negative_leaves : t ≡ true → mode ≡ mode_by mode v
-  unfolding mode_by
-  negative_leaves g = rw (← sign, g)
-
   module _ (g : t ≡ false) {n : ℕ} (en : n ≡ nat_abs (to_z w32 (of_z w32 v))) where
     size : n ≡ nat_abs v
     size = rw (to_z-of_z f) at en
-
-    pub nought_clears : n ≡ 0 → Data ≡ mode_by mode v
-    unfolding mode_by
-    nought_clears h = rw (← sign, g, ← size, h)
-
-    pub one-sets : n ≡ 1 → Filler ≡ mode_by mode v
-    unfolding mode_by
-    one-sets h = rw (← sign, g, ← size, h)
-
-    pub others-leave : (n ≡ 0 → ⊥) → (n ≡ 1 → ⊥) → mode ≡ mode_by mode v
-    unfolding mode_by
-    others-leave h k = rw (← sign, g, ← size, ne_eqb n 0 h, ne_eqb n 1 k)
-
-pub ruleset modes = (negative_leaves, nought_clears, one-sets, others-leave)
 
 -- ---- the letters
 

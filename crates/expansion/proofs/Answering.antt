@@ -15,48 +15,45 @@ use mir.Facts.{to_z-of_z}
 use Rattle.memory.specs.declared.Remembered.{Remembered}
 use Rattle.memory.specs.Memory.{inside}
 use Rattle.refusals.specs.declared.Refusal.{Refusal}
-use Rattle.refusals.specs.declared.Refusal.TheVariants.{TooShort, NotValid, StoreMalformed}
+use Rattle.refusals.specs.declared.Refusal.TheVariants.{TooShort}
 use Rattle.refusals.specs.Refusals.{number_of}
-use Rattle.refusals.specs.Answers.{Answer, demand}
+use Rattle.refusals.specs.Answers.{Answer, answer_of, refusal_of, demand}
 use Rattle.refusals.proofs.Cases.{and_left, and_right}
 use Rattle.refusals.proofs.Numbers.{not_nought, met}
-use Rattle.macros.specs.declared.Finding.{Finding}
-use Rattle.macros.specs.Store.{three_bytes, well_formed, is_macro_number, body_in_either, look_refusal, find_refusal, finding_of}
+use Rattle.std.specs.Prelude.{Result, Ok, Err}
+use Rattle.macros.specs.Store.{three_bytes, well_formed, is_macro_number, body_in_either, look_refusal, find_refusal}
 use Rattle.expansion.specs.declared.Expanded.{Expanded}
-use Rattle.expansion.specs.declared.Going.{Going}
-use Rattle.expansion.specs.declared.Step.{Step}
-use Rattle.expansion.specs.declared.Expansion.TheVariants as Expansion
-use Rattle.expansion.specs.Expansion.{Stretch, call_stretch, started, step_of, reached_by, expansion_of, told_of, out_of, room_refusal, room_told, room_out, start_refusal, expand_refusal, expand_told, expand_out}
-use Rattle.expansion.specs.Running.{BothFormed, Ran}
+use Rattle.expansion.specs.Expansion.{Stretch, call_stretch, started, reached_by, told_of, out_of, room_refusal, room_told, room_out, start_refusal, expand_refusal, expand_told, expand_out}
+use Rattle.expansion.specs.Running.{Ran}
 use Rattle.expansion.proofs.Walking.{went_on, was_refused}
 
 -- ---- the run
 
-pub ran-start : (volatile saved : List ℕ) (number : ℤ) (kept : Remembered) {out out' : List ℕ} {r : Step} → SFits w32 number → Ran (call_stretch volatile saved 8 (to_z w32 (of_z w32 number)) kept 0) 0 out out' r → Ran (started volatile saved number kept) 0 out out' r
+pub ran-start : (volatile saved : List ℕ) (number : ℤ) (kept : Remembered) {out out' : List ℕ} {r : Result Expanded Refusal} → SFits w32 number → Ran (call_stretch volatile saved 8 (to_z w32 (of_z w32 number)) kept 0) 0 out out' r → Ran (started volatile saved number kept) 0 out out' r
 unfolding started
 ran-start volatile saved number kept f ran = rw (to_z-of_z f) at ran
 
-pub looked : (volatile saved : List ℕ) (number : ℤ) (kept : Remembered) {out out' : List ℕ} {r : Step} → SFits w32 number → Ran (started volatile saved (to_z w32 (of_z w32 number)) kept) 0 out out' r → step_of r ≡ reached_by 0 (started volatile saved number kept)
+pub looked : (volatile saved : List ℕ) (number : ℤ) (kept : Remembered) {out out' : List ℕ} {r : Result Expanded Refusal} → SFits w32 number → Ran (started volatile saved (to_z w32 (of_z w32 number)) kept) 0 out out' r → answer_of r ≡ reached_by 0 (started volatile saved number kept)
 looked volatile saved number kept f ran = rw (to_z-of_z f) at ran.told
 
 -- ---- a refusal is told with no counts, and leaves the output as it was
 
-refused-told : (e : Refusal) {f : ℕ} (c : Stretch) → number_of e ≡ f → expansion_of (Expansion.Refused e) ≡ told_of f c
-unfolding expansion_of
+refused-told : (e : Refusal) {f : ℕ} (c : Stretch) → number_of e ≡ f → answer_of (Err e) ≡ told_of f c
+unfolding answer_of
 refused-told e c z = rw (← z, not_nought e)
 
 refused-out : (e : Refusal) {f : ℕ} (c : Stretch) (out : List ℕ) → number_of e ≡ f → out ≡ out_of f c out
 refused-out e c out z = rw (← z, not_nought e)
 
-module _ (volatile saved : List ℕ) (number : ℤ) (kept : Remembered) (f : SFits w32 number) (r : Step) (t : step_of r ≡ reached_by 0 (started volatile saved (to_z w32 (of_z w32 number)) kept)) where
-  told_of_lem : step_of r ≡ reached_by 0 (started volatile saved number kept)
+module _ (volatile saved : List ℕ) (number : ℤ) (kept : Remembered) (f : SFits w32 number) (r : Result Expanded Refusal) (t : answer_of r ≡ reached_by 0 (started volatile saved (to_z w32 (of_z w32 number)) kept)) where
+  told_of_lem : answer_of r ≡ reached_by 0 (started volatile saved number kept)
   told_of_lem = rw (to_z-of_z f) at t
 
-  module _ {e : Refusal} (g : r ≡ Step.Refused e) where
+  module _ {e : Refusal} (g : r ≡ Err e) where
     refusal_is : (room : ℕ) → number_of e ≡ room_refusal (started volatile saved number kept) room
     refusal_is room = let q = was_refused 0 (started volatile saved number kept) told_of_lem g in rw q.0 q.1
 
-    pub look_refused_told : (room : ℕ) → expansion_of (Expansion.Refused e) ≡ room_told (started volatile saved number kept) room
+    pub look_refused_told : (room : ℕ) → answer_of (Err e) ≡ room_told (started volatile saved number kept) room
     unfolding room_told
     look_refused_told room = refused-told e (started volatile saved number kept) (refusal_is room)
 
@@ -64,21 +61,21 @@ module _ (volatile saved : List ℕ) (number : ℤ) (kept : Remembered) (f : SFi
     unfolding room_out
     look_refused_out out = refused-out e (started volatile saved number kept) out (refusal_is (length out))
 
-  module _ {end : Going} (g : r ≡ Step.On end) where
-    length_is : end.at ≡ length (started volatile saved number kept).bytes
-    length_is = ap (λ (x : Going). x.at) (went_on 0 (started volatile saved number kept) told_of_lem g).1 ∙ omega arith
+  module _ {end : Expanded} (g : r ≡ Ok end) where
+    length_is : end.written ≡ length (started volatile saved number kept).bytes
+    length_is = ap (λ (x : Expanded). x.written) (went_on 0 (started volatile saved number kept) told_of_lem g).1 ∙ omega arith
 
     entered-is : end.entered ≡ (started volatile saved number kept).entered
-    entered-is = ap (λ (x : Going). x.entered) (went_on 0 (started volatile saved number kept) told_of_lem g).1
+    entered-is = ap (λ (x : Expanded). x.entered) (went_on 0 (started volatile saved number kept) told_of_lem g).1
 
     kept-is : end.kept ≡ (started volatile saved number kept).kept
-    kept-is = ap (λ (x : Going). x.kept) (went_on 0 (started volatile saved number kept) told_of_lem g).1
+    kept-is = ap (λ (x : Expanded). x.kept) (went_on 0 (started volatile saved number kept) told_of_lem g).1
 
-    module _ (out : List ℕ) (h : length out < end.at) where
+    module _ (out : List ℕ) (h : length out < end.written) where
       short-is : number_of TooShort ≡ room_refusal (started volatile saved number kept) (length out)
       short-is = rw ((went_on 0 (started volatile saved number kept) told_of_lem g).0, lt-leb (length (started volatile saved number kept).bytes) (length out) (omega (arith, h, length_is)))
 
-      pub short-told : expansion_of (Expansion.Refused TooShort) ≡ room_told (started volatile saved number kept) (length out)
+      pub short-told : answer_of (Err TooShort) ≡ room_told (started volatile saved number kept) (length out)
       unfolding room_told
       short-told = refused-told TooShort (started volatile saved number kept) short-is
 
@@ -86,15 +83,21 @@ module _ (volatile saved : List ℕ) (number : ℤ) (kept : Remembered) (f : SFi
       unfolding room_out
       short-out = refused-out TooShort (started volatile saved number kept) out short-is
 
-    module _ (out : List ℕ) (h : end.at ≤ length out) where
+    module _ (out : List ℕ) (h : end.written ≤ length out) where
       none : room_refusal (started volatile saved number kept) (length out) ≡ 0
       none = rw ((went_on 0 (started volatile saved number kept) told_of_lem g).0, le-leb (length (started volatile saved number kept).bytes) (length out) (omega (arith, h, length_is)))
 
-      pub done-told : expansion_of (Expansion.Done (record { written = end.at; entered = end.entered; kept = end.kept })) ≡ room_told (started volatile saved number kept) (length out)
-      unfolding room_told expansion_of
-      done-told = rw (none, length_is, entered-is, kept-is)
+      end_told : answer_of (Ok (record { written = end.written; entered = end.entered; kept = end.kept })) ≡ room_told (started volatile saved number kept) (length out)
+      unfolding room_told answer_of
+      end_told = rw (none, length_is, entered-is, kept-is)
 
-      pub done-out : {out' : List ℕ} {q : Step} → Ran (started volatile saved (to_z w32 (of_z w32 number)) kept) 0 out out' q → out' ≡ room_out (started volatile saved number kept) out
+      -- the run that writes gives what the one that looks gave
+      pub done-told : {out' : List ℕ} {q : Result Expanded Refusal} → Ran (started volatile saved (to_z w32 (of_z w32 number)) kept) 0 out out' q → answer_of q ≡ room_told (started volatile saved number kept) (length out)
+      done-told {q = q} ran =
+          let w : Ran (started volatile saved number kept) 0 out _ q = rw (to_z-of_z f) at ran in
+          w.told ∙ sym told_of_lem ∙ ap answer_of g ∙ end_told
+
+      pub done-out : {out' : List ℕ} {q : Result Expanded Refusal} → Ran (started volatile saved (to_z w32 (of_z w32 number)) kept) 0 out out' q → out' ≡ room_out (started volatile saved number kept) out
       unfolding room_out
       done-out ran =
           let z : 0 + length (started volatile saved number kept).bytes ≡ length (started volatile saved number kept).bytes = omega arith in
@@ -110,7 +113,7 @@ module _ (volatile saved : List ℕ) (number : ℤ) (kept : Remembered) {b : Boo
     unfolding expand_refusal start_refusal
     outside-is room = rw (← eb, h, ← ee, not_nought e)
 
-    pub outside_told : (room : ℕ) → expansion_of (Expansion.Refused e) ≡ expand_told volatile saved number kept room
+    pub outside_told : (room : ℕ) → answer_of (Err e) ≡ expand_told volatile saved number kept room
     unfolding expand_told
     outside_told room = refused-told e (started volatile saved number kept) (outside-is room)
 
@@ -129,16 +132,16 @@ module _ (volatile saved : List ℕ) (number : ℤ) (kept : Remembered) {b : Boo
       twice true e next = refl
       twice false e next = refl
 
-  module _ (h : b ≡ true) (f : SFits w32 number) (r : Finding) (t : finding_of r ≡ find_refusal three_bytes volatile saved (to_z w32 (of_z w32 number))) where
-    finding : finding_of r ≡ start_refusal volatile saved number kept
+  module _ (h : b ≡ true) (f : SFits w32 number) (r : Result (Unit {0}) Refusal) (t : refusal_of r ≡ find_refusal three_bytes volatile saved (to_z w32 (of_z w32 number))) where
+    finding : refusal_of r ≡ start_refusal volatile saved number kept
     finding = (rw (to_z-of_z f) at t) ∙ sym (start_is h)
 
-    module _ {e : Refusal} (g : r ≡ Finding.Refused e) where
+    module _ {e : Refusal} (g : r ≡ Err e) where
       unfound_is : (room : ℕ) → number_of e ≡ expand_refusal volatile saved number kept room
-      unfolding finding_of expand_refusal
+      unfolding refusal_of expand_refusal
       unfound_is room = let q : number_of e ≡ start_refusal volatile saved number kept = sym (rw g) ∙ finding in rw (← q, not_nought e)
 
-      pub unfound_told : (room : ℕ) → expansion_of (Expansion.Refused e) ≡ expand_told volatile saved number kept room
+      pub unfound_told : (room : ℕ) → answer_of (Err e) ≡ expand_told volatile saved number kept room
       unfolding expand_told
       unfound_told room = refused-told e (started volatile saved number kept) (unfound_is room)
 
@@ -146,16 +149,20 @@ module _ (volatile saved : List ℕ) (number : ℤ) (kept : Remembered) {b : Boo
       unfolding expand_out
       unfound_out out = refused-out e (started volatile saved number kept) out (unfound_is (length out))
 
-    module _ (g : r ≡ Finding.Found) where
+    module _ {u : Unit {0}} (g : r ≡ Ok u) where
       none_yet : start_refusal volatile saved number kept ≡ 0
-      unfolding finding_of
+      unfolding refusal_of
       none_yet = sym finding ∙ rw g
 
-      pub found_formed : BothFormed volatile saved
+      both : well_formed three_bytes volatile && well_formed three_bytes saved ≡ true
       unfolding start_refusal
-      found_formed =
-          let w = (met (well_formed three_bytes volatile && well_formed three_bytes saved) 12 _ (λ e. omega (arith, e)) none_yet).0 in
-          record { first = and_left (well_formed three_bytes volatile) (well_formed three_bytes saved) w; second = and_right (well_formed three_bytes volatile) (well_formed three_bytes saved) w }
+      both = (met (well_formed three_bytes volatile && well_formed three_bytes saved) 12 _ (λ e. omega (arith, e)) none_yet).0
+
+      pub first-found : well_formed three_bytes volatile ≡ true
+      first-found = and_left (well_formed three_bytes volatile) (well_formed three_bytes saved) both
+
+      pub second-found : well_formed three_bytes saved ≡ true
+      second-found = and_right (well_formed three_bytes volatile) (well_formed three_bytes saved) both
 
       found_is : (room : ℕ) → expand_refusal volatile saved number kept room ≡ room_refusal (started volatile saved number kept) room
       unfolding expand_refusal
@@ -169,14 +176,6 @@ module _ (volatile saved : List ℕ) (number : ℤ) (kept : Remembered) {b : Boo
       unfolding expand_out room_out
       found_out out e = (rw (to_z-of_z f) at e) ∙ ap (λ (k : ℕ). out_of k (started volatile saved number kept) out) (sym (found_is (length out)))
 
--- what is given outside, by the stores
-module _ (volatile saved : List ℕ) {a : Bool} (ea : a ≡ well_formed three_bytes volatile) where
-  pub first-malformed : a ≡ false → number_of StoreMalformed ≡ demand (well_formed three_bytes volatile && well_formed three_bytes saved) 12 8
-  first-malformed h = rw (← ea, h)
+pub ruleset starts = (outside_told, outside-out, unfound_told, unfound_out, first-found, second-found, found_told, found_out)
 
-  module _ (h : a ≡ true) {b : Bool} (eb : b ≡ well_formed three_bytes saved) where
-    pub second-malformed : b ≡ false → number_of StoreMalformed ≡ demand (well_formed three_bytes volatile && well_formed three_bytes saved) 12 8
-    second-malformed g = rw (← ea, h, ← eb, g)
-
-    pub both_formed : b ≡ true → number_of NotValid ≡ demand (well_formed three_bytes volatile && well_formed three_bytes saved) 12 8
-    both_formed g = rw (← ea, h, ← eb, g)
+pub ruleset runs = (ran-start, looked)

@@ -3,15 +3,11 @@ use Rattle.std.specs.Prelude.{ℕ, zero, suc, ◌+◌, ◌-◌, ◌&&◌, List, 
 use Rattle.memory.specs.declared.Remembered.{Remembered}
 use Rattle.memory.specs.Memory.{inside}
 use Rattle.signs.specs.Signs.{is_negative}
-use Rattle.refusals.specs.Refusals.{number_of}
 use Rattle.refusals.specs.Answers.{Answer, done, pick, demand}
 use Rattle.refusals.specs.Answers as Answers
 use Rattle.macros.specs.Store.{three_bytes, well_formed, looked_up, find_refusal}
 use Rattle.pieces.specs.Pieces.{Pieced, end, copied, called, trouble, piece_at}
-use Rattle.expansion.specs.declared.Expansion.{Expansion}
 use Rattle.expansion.specs.declared.Expanded.{Expanded}
-use Rattle.expansion.specs.declared.Going.{Going}
-use Rattle.expansion.specs.declared.Step.{Step}
 
 -- ---- a stretch of an expansion: its bytes, the macros entered in all, what is then remembered, and the first trouble's number, or 0
 
@@ -84,25 +80,13 @@ started volatile saved number kept = call_stretch volatile saved 8 number kept 0
 
 -- ---- what is said of a stretch that begins at a place of the output
 
-pub data Reached : Type 0 where
-  on : Going → Reached
-  refused : ℕ → Reached
-
-unfoldable pub step_of : Step → Reached
-step_of (Step.On going) = on going
-step_of (Step.Refused e) = refused (number_of e)
-
-unfoldable pub reached_by : ℕ → Stretch → Reached
-reached_by at c = pick (eqb c.number 0) (on (record { at = at + length c.bytes; entered = c.entered; kept = c.kept })) (refused c.number)
+-- what the answer says: how far it has come, or the number of the first trouble
+unfoldable pub reached_by : ℕ → Stretch → Answer Expanded
+reached_by at c = pick (eqb c.number 0) (done (record { written = at + length c.bytes; entered = c.entered; kept = c.kept })) (Answers.refused c.number 0)
 
 -- ---- the whole call
 
--- "The answer gives bytes written and macros entered", and what is then remembered
-unfoldable pub expansion_of : Expansion → Answer Expanded
-expansion_of (Expansion.Done k) = done k
-expansion_of (Expansion.Refused e) = Answers.refused (number_of e) 0
-
--- "Counts with a refusal are 0"
+-- "The answer gives bytes written and macros entered", and what is then remembered. "Counts with a refusal are 0"
 abbrev pub told_of : (f : ℕ) → Stretch → Answer Expanded
 told_of f c = pick (eqb f 0) (done (record { written = length c.bytes; entered = c.entered; kept = c.kept })) (Answers.refused f 0)
 

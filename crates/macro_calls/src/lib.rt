@@ -6,9 +6,7 @@ ghost use Rattle.macros.specs.Store.{three_bytes, placed};
 ghost use Rattle.defining.specs.Defining.{define_refusal, store_after};
 ghost use Rattle.macro_calls.specs.Slots.{place_fields, ExpandedCall};
 
-use defining::Defining;
-use expansion::Expansion;
-use macros::Place;
+use macros::{Place, Stores};
 
 // KD and KO
 pub fn ardh_define(store: &mut [u8], number: i32, contents: &[i32]) -> u8
@@ -16,8 +14,8 @@ pub fn ardh_define(store: &mut [u8], number: i32, contents: &[i32]) -> u8
     ensures store_after { store.new ≡ store_after three_bytes store.old number contents.now }
 {
     match defining::define(store, number, contents) {
-        Defining::Defined => 0,
-        Defining::Refused(e) => refusals::number(e),
+        Ok(()) => 0,
+        Err(e) => e.number(),
     }
 }
 
@@ -30,18 +28,19 @@ pub fn ardh_look_up<'a>(
     ensures value { result ≡ (placed three_bytes volatile.now saved.now number).number }
     ensures place_after { place.new ≡ place_fields (placed three_bytes volatile.now saved.now number) }
 {
-    match macros::locate(volatile, saved, number) {
-        Place::InVolatile(part) => {
+    let stores = Stores { volatile, saved };
+    match stores.locate(number) {
+        Ok(Place::InVolatile(part)) => {
             *place = [1, part.offset, part.long];
             0
         }
-        Place::InSaved(part) => {
+        Ok(Place::InSaved(part)) => {
             *place = [2, part.offset, part.long];
             0
         }
-        Place::Refused(e) => {
-            *place = [0, 0, 0];
-            refusals::number(e)
+        Err(e) => {
+            *place = [0; 3];
+            e.number()
         }
     }
 }
@@ -56,17 +55,17 @@ pub fn ardh_expand<'a>(
 ) -> u8
     ensures { ExpandedCall volatile.now saved.now number remembered.old out.old result counts.new remembered.new out.new }
 {
+    let stores = Stores { volatile, saved };
     let kept = coordinates::kept_in(remembered);
-    match expansion::expand(volatile, saved, number, kept, out) {
-        Expansion::Done(come) => {
-            let after = come.kept;
+    match expansion::expand(stores, number, kept, out) {
+        Ok(come) => {
             *counts = [come.written, come.entered];
-            *remembered = coordinates::slots_of(after);
+            *remembered = coordinates::slots_of(come.kept);
             0
         }
-        Expansion::Refused(e) => {
-            *counts = [0, 0];
-            refusals::number(e)
+        Err(e) => {
+            *counts = [0; 2];
+            e.number()
         }
     }
 }

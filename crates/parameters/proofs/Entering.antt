@@ -15,7 +15,7 @@ use Rattle.std.specs.Prelude.{Result, Ok, Err}
 use Rattle.refusals.specs.declared.RefusedAt.{RefusedAt}
 use Rattle.refusals.specs.Refusals.{number_of}
 use Rattle.refusals.specs.declared.Taken.{Taken}
-use Rattle.refusals.specs.Answers.{answer_at, Answer, done, refused, then, pick, every, value_or, ends_after, all_after}
+use Rattle.refusals.specs.Answers.{answer_at, Answer, done, refused, pick, every, value_or, ends_after, all_after}
 use Rattle.refusals.proofs.Cases.{by_then, and_left, and_right, Done, done-of, done-map, is-done, not_done}
 use Rattle.refusals.proofs.Many as many
 use Rattle.wire.specs.Taking.{byte_at, is_itself}
@@ -23,10 +23,9 @@ use Rattle.wire.proofs.Feeds.{byte_given, none_given, itself_taken}
 use Rattle.numbers.specs.Integers.{integer_at}
 use Rattle.numbers.specs.Counts.{count_at}
 use Rattle.numbers.proofs.Shortest.{count-shown}
-use Rattle.parameters.specs.declared.CountedRun.{CountedRun}
 use Rattle.parameters.specs.declared.Entry.{Entry}
 use Rattle.parameters.specs.declared.Entry.TheVariants.{AnInteger, ACharacter}
-use Rattle.parameters.specs.Entries.{entry_at, entries_end, entry_values, run_at, handed, after_run, list_behind, characters_ahead}
+use Rattle.parameters.specs.Entries.{entry_at, entries_end, entry_values, handed, list_behind, characters_ahead}
 
 -- ---- one entry
 
@@ -163,8 +162,6 @@ module _ (es : List ℤ) (k : ℕ) (l₀ l : List ℤ) (i : ℕ) (f : Handing es
       ∙ ap (λ (n : ℕ). take 0 l₀ ++ take k es ++ drop (0 + n) l₀) (sym long)
       ∙ sym (sets-eq (take k es) l₀ 0 (omega (arith, f.room, long)))
 
-pub ruleset handings = (handing_none, handing_more, handing_end)
-
 -- ---- reading them into an array, and handing them over from it
 
 -- readings that come to their end gave as many values
@@ -227,37 +224,6 @@ module _ (kept : Remembered) (s : List ℕ) (at : ℕ) {c : Result (Taken ℕ) R
 
   pub count_few : k.value ≤ 256
   count_few = (count-shown kept s at count-given).writable
-
--- the list behind a counted one, once the count is known
-run-list : (e : Entry) (kept : Remembered) (k : ℕ) (s : List ℕ) (start : ℕ) (l : List ℤ) (q : Answer ℕ) → value_or l (λ (n : ℕ). handed k (entry_values e kept k s start) l) q ≡ after_run e kept s (then q (λ n. done (record { start = start; count = k; next = n }))) l
-unfolding after_run value_or
-run-list e kept k s start l (done n) = refl
-run-list e kept k s start l (refused x p) = refl
-
-module _ (e : Entry) (kept : Remembered) (s : List ℕ) (at : ℕ) {c : Result (Taken ℕ) RefusedAt} (ec : answer_at c ≡ count_at kept s at) where
-  pub run-no : {x : RefusedAt} → c ≡ Err x → answer_at {A = CountedRun} (Err x) ≡ run_at e kept s at
-  unfolding run_at answer_at
-  run-no g = rw (← ec, g)
-
-  pub kept-no : (l : List ℤ) {x : RefusedAt} → c ≡ Err x → l ≡ after_run e kept s (run_at e kept s at) l
-  unfolding run_at after_run answer_at
-  kept-no l g = rw (← ec, g)
-
-  module _ {k : Taken ℕ} (g : c ≡ Ok k) where
-    pub run-left : (l : List ℤ) {o : List ℤ} → o ≡ list_behind e kept k.value s k.next l → o ≡ after_run e kept s (run_at e kept s at) l
-    unfolding run_at answer_at list_behind
-    run-left l j = j ∙ run-list e kept k.value s k.next l (entries_end e kept k.value s k.next) ∙ rw (← ec, g)
-
-    module _ {t : Result ℕ RefusedAt} (et : answer_at t ≡ entries_end e kept k.value s k.next) where
-      pub run-cut : {x : RefusedAt} → t ≡ Err x → answer_at {A = CountedRun} (Err x) ≡ run_at e kept s at
-      unfolding run_at answer_at
-      run-cut h = rw (← ec, g, ← et, h)
-
-      pub run-whole : {m : ℕ} → t ≡ Ok m → answer_at (Ok (record { start = k.next; count = k.value; next = m })) ≡ run_at e kept s at
-      unfolding run_at answer_at
-      run-whole h = rw (← ec, g, ← et, h)
-
-pub ruleset runs = (count_few, run-no, kept-no, run-left, run-cut, run-whole)
 
 -- ---- characters that are taken as they stand
 

@@ -4,10 +4,13 @@
 mod drawing;
 mod ppm;
 
+use drawing::{HEIGHT, WIDTH};
 use std::io;
 
 fn main(rt: HostRuntime) -> io::Result<()> {
-    let mut surface = [0; 172800];
-    drawing::draw(&mut surface);
+    let mut surface = [0; WIDTH * HEIGHT];
+    if drawing::draw(&mut surface).is_err() {
+        return Err(io::ErrorKind::InvalidInput.into());
+    }
     ppm::write(&mut rt.stdout(), &surface)
 }

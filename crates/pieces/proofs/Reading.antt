@@ -4,7 +4,7 @@ use mathlib.Core.Path.{◌≡◌, refl, sym, ◌∙◌, ap}
 use mathlib.Core.Bool.{Bool, true, false, not, ◌&&◌}
 use mathlib.Core.List.{List}
 use native.Mathlib.Omega.{arith}
-use borrow.Author.Tests.{eq-eqb, ne_eqb, le-ltb, lt-ltb, ltb-true, not-true}
+use borrow.Author.Tests.{le-ltb, lt-ltb, ltb-true, not-true}
 use lib.Dec.{ltb, eqb}
 use lib.ListN.{length, get_or}
 use lib.IntN.{ℤ}
@@ -13,28 +13,27 @@ use mir.Val.{SFits, to_z, of_z}
 use mir.Facts.{to_z-of_z}
 use Rattle.memory.specs.declared.Remembered.{Remembered}
 use Rattle.memory.specs.Memory.{inside}
-use Rattle.refusals.specs.declared.Refusal.{Refusal}
+use Rattle.std.specs.Prelude.{Result, Ok, Err}
+use Rattle.refusals.specs.declared.Refusal.TheVariants.{BodyRefused}
+use Rattle.refusals.specs.declared.RefusedAt.{RefusedAt}
 use Rattle.refusals.specs.Answers.{Answer, done, refused}
 use Rattle.refusals.proofs.Cases.{by_pick, and_left, and_right}
 use Rattle.parameters.specs.Shapes.{Value, values_of}
 use Rattle.commands.specs.declared.TakenCommand.{TakenCommand}
-use Rattle.commands.specs.declared.CommandRead.{CommandRead}
-use Rattle.commands.specs.declared.CommandRead.TheVariants.{Whole}
 use Rattle.commands.specs.Behind.{leading}
 use Rattle.commands.specs.Reading.{Meaning, ToldCommand, told, command_of, command_at}
 use Rattle.stream.specs.Items.{is_filler, as_item, command_item, item_at, told_item}
-use Rattle.pieces.specs.declared.Piece.{Piece}
 use Rattle.pieces.specs.declared.Piece.TheVariants.{End, Copied, Called}
 use Rattle.pieces.specs.Pieces.{Pieced, copied, trouble, is_call, command_piece, item_piece, piece_at, piece_of, is_byte}
 
 -- ---- a command
 
 module _ (first second : ℕ) (values : List Value) (next : ℕ) (after : Remembered) {b : Bool} (eb : b ≡ is_call first second) where
-  pub is-called : {a : ℤ} → b ≡ true → SFits w32 a → a ≡ leading values → piece_of (Called (to_z w32 (of_z w32 a)) next after) ≡ command_piece first second values next after
+  pub is-called : {a : ℤ} → b ≡ true → SFits w32 a → a ≡ leading values → piece_of (Ok (Called (to_z w32 (of_z w32 a)) next after)) ≡ command_piece first second values next after
   unfolding piece_of command_piece
   is-called {a = a} t f e = rw (← eb, t, to_z-of_z f, e)
 
-  pub is-copied : b ≡ false → piece_of (Copied next after) ≡ command_piece first second values next after
+  pub is-copied : b ≡ false → piece_of (Ok (Copied next after)) ≡ command_piece first second values next after
   unfolding piece_of command_piece
   is-copied t = rw (← eb, t)
 
@@ -48,35 +47,22 @@ unfolding answer_piece told item_piece told_item
 as_told kept s (done m) = refl
 as_told kept s (refused e p) = by_pick (λ i. trouble 17 ≡ item_piece kept (told_item i)) (eqb e 7) _ _ (λ u. refl) (λ u. refl)
 
-module _ (kept : Remembered) (s : List ℕ) (start : ℕ) {r : CommandRead} (er : command_of r ≡ told (command_at kept s start 256)) where
-  said : {q : CommandRead} → r ≡ q → answer_piece (command_of q) ≡ item_piece kept (told_item (command_item kept s start 256))
+module _ (kept : Remembered) (s : List ℕ) (start : ℕ) where
+  said : (r : Result TakenCommand RefusedAt) → command_of r ≡ told (command_at kept s start 256) → answer_piece (command_of r) ≡ item_piece kept (told_item (command_item kept s start 256))
   unfolding command_item
-  said e = ap answer_piece (sym (ap command_of e) ∙ er) ∙ as_told kept s (command_at kept s start 256)
+  said r e = ap answer_piece e ∙ as_told kept s (command_at kept s start 256)
 
-  pub command-told : {t : TakenCommand} (p : Piece) → r ≡ Whole t → piece_of p ≡ command_piece t.command.first t.command.second (values_of t.command.parameters) t.next t.kept → piece_of p ≡ item_piece kept (told_item (command_item kept s start 256))
+  pub command-told : (t : TakenCommand) → command_of (Ok t) ≡ told (command_at kept s start 256) → {p : Pieced} → p ≡ command_piece t.command.first t.command.second (values_of t.command.parameters) t.next t.kept → p ≡ item_piece kept (told_item (command_item kept s start 256))
   unfolding answer_piece command_of
-  command-told p e j = j ∙ said e
+  command-told t e j = j ∙ said (Ok t) e
 
-  pub command-refused : {x : Refusal} {p : ℕ} → r ≡ CommandRead.Refused x p → piece_of Piece.Refused ≡ item_piece kept (told_item (command_item kept s start 256))
+  pub command-refused : (x : RefusedAt) → command_of (Err x) ≡ told (command_at kept s start 256) → piece_of (Err BodyRefused) ≡ item_piece kept (told_item (command_item kept s start 256))
   unfolding piece_of answer_piece command_of
-  command-refused e = said e
+  command-refused x e = said (Err x) e
 
 -- ---- a byte outside commands
 
 module _ (kept : Remembered) (s : List ℕ) (start : ℕ) where
-  pub at-the_end : length s ≤ start → false ≡ is_byte kept s start
-  unfolding is_byte
-  at-the_end h = rw (le-ltb start (length s) h)
-
-  module _ (h : start < length s) where
-    pub an_escape : get_or s start 0 ≡ 27 → false ≡ is_byte kept s start
-    unfolding is_byte
-    an_escape e = rw (lt-ltb start (length s) h, eq-eqb (get_or s start 0) 27 e)
-
-    pub a_byte : (get_or s start 0 ≡ 27 → ⊥) → {b : Bool} → b ≡ inside kept.point → b ≡ is_byte kept s start
-    unfolding is_byte
-    a_byte e j = rw (lt-ltb start (length s) h, ne_eqb (get_or s start 0) 27 e) j
-
   module _ {b : Bool} (eb : b ≡ is_byte kept s start) (t : b ≡ true) where
     tests : (start < length s) × ((eqb (get_or s start 0) 27 ≡ false) × (inside kept.point ≡ true))
     unfolding is_byte
@@ -90,13 +76,11 @@ module _ (kept : Remembered) (s : List ℕ) (start : ℕ) where
     pub text-counts : length s < 2 ^ 64 → start + 1 < 2 ^ 64
     text-counts h = omega (arith, h, tests.0)
 
-    pub text-piece : piece_of (Copied (start + 1) kept) ≡ piece_at kept s start
+    pub text-piece : piece_of (Ok (Copied (start + 1) kept)) ≡ piece_at kept s start
     unfolding piece_of piece_at item_piece told_item item_at
     text-piece =
         rw (le-ltb (length s) start (omega (arith, tests.0)), tests.1.1, lt-ltb start (length s) tests.0, tests.1.0)
         (by_pick (λ i. copied (start + 1) kept ≡ item_piece kept (told_item i)) (is_filler kept.mode (get_or s start 0)) _ _ (λ u. refl) (λ u. refl))
-
-pub ruleset texts = (at-the_end, an_escape, a_byte)
 
 -- ---- where no byte outside commands starts
 
@@ -111,16 +95,16 @@ is-escape kept s start h j e =
     only-not (eqb (get_or s start 0) 27) z
 
 module _ (kept : Remembered) (s : List ℕ) (start : ℕ) where
-  pub past_piece : length s < start → piece_of Piece.Refused ≡ piece_at kept s start
+  pub past_piece : length s < start → piece_of (Err BodyRefused) ≡ piece_at kept s start
   unfolding piece_of piece_at item_piece told_item item_at
   past_piece h = rw (lt-ltb (length s) start h)
 
   module _ (h : start ≤ length s) {b : Bool} (eb : b ≡ inside kept.point) where
-    pub outside-piece : b ≡ false → piece_of Piece.Refused ≡ piece_at kept s start
+    pub outside-piece : b ≡ false → piece_of (Err BodyRefused) ≡ piece_at kept s start
     unfolding piece_of piece_at item_piece told_item item_at
     outside-piece t = rw (le-ltb (length s) start h, ← eb, t)
 
-    pub end-piece : b ≡ true → start ≡ length s → piece_of End ≡ piece_at kept s start
+    pub end-piece : b ≡ true → start ≡ length s → piece_of (Ok End) ≡ piece_at kept s start
     unfolding piece_of piece_at item_piece told_item item_at
     end-piece t e = rw (le-ltb (length s) start h, ← eb, t, le-ltb start (length s) (omega (arith, e)))
 
@@ -130,3 +114,9 @@ module _ (kept : Remembered) (s : List ℕ) (start : ℕ) where
         let l : start < length s = omega (arith, h, n) in
         let x = is-escape kept s start l (sym eb ∙ t) (sym ec ∙ f) in
         rw (le-ltb (length s) start h, ← eb, t, lt-ltb start (length s) l, x) j
+
+pub ruleset calls = (is-called, is-copied)
+
+pub ruleset escapes = (command-told, command-refused)
+
+pub ruleset places = (text-counts, text-piece, past_piece, outside-piece, end-piece, escape_piece)

@@ -1,7 +1,9 @@
 -- "Expanding copies a body's items, with each KX replaced by the expansion of the macro that it names."
-use Rattle.std.specs.Prelude.{ℕ, Bool, not, ◌&&◌, List, ltb, eqb, length, get_or, ℤ}
+use Rattle.std.specs.Prelude.{ℕ, Bool, not, ◌&&◌, List, ltb, eqb, length, get_or, ℤ, Result, Ok, Err}
 use Rattle.memory.specs.declared.Remembered.{Remembered}
 use Rattle.memory.specs.Memory.{inside}
+use Rattle.refusals.specs.declared.Refusal.{Refusal}
+use Rattle.refusals.specs.Refusals.{number_of}
 use Rattle.refusals.specs.Answers.{pick}
 use Rattle.ranges.specs.Ranges.{most_entries}
 use Rattle.parameters.specs.Shapes.{Value}
@@ -39,11 +41,11 @@ unfoldable pub piece_at : Remembered → List ℕ → ℕ → Pieced
 piece_at kept body start = item_piece kept (told_item (item_at kept body start most_entries))
 
 -- what the answer says
-unfoldable pub piece_of : Piece → Pieced
-piece_of End = end
-piece_of (Copied n k) = copied n k
-piece_of (Called a n k) = called a n k
-piece_of Piece.Refused = trouble 17
+unfoldable pub piece_of : Result Piece Refusal → Pieced
+piece_of (Ok End) = end
+piece_of (Ok (Copied n k)) = copied n k
+piece_of (Ok (Called a n k)) = called a n k
+piece_of (Err e) = trouble (number_of e)
 
 -- a byte outside commands, text or a DEL: "each byte but 27", from a start within the body and a point inside
 unfoldable pub is_byte : Remembered → List ℕ → ℕ → Bool

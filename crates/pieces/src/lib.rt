@@ -2,92 +2,94 @@
 // asked for, so that no list is lent for them.
 #![tactic(auto)]
 
-ghost use Rattle.std.specs.Prelude.{◌≡◌};
+ghost use Rattle.std.specs.Prelude.{◌≡◌, Ok};
 ghost use Rattle.ranges.specs.Ranges.{most_entries};
 ghost use Rattle.parameters.specs.Shapes.{values_of};
 ghost use Rattle.stream.specs.Items.{command_item, told_item};
 ghost use Rattle.pieces.specs.Pieces.{is_call, command_piece, item_piece, is_byte, piece_at, piece_of};
 
-use commands::{CommandRead, TakenCommand};
+use commands::TakenCommand;
 use memory::Remembered;
+use refusals::Refusal;
 
-#[derive(Clone, Copy)]
+#[derive(Clone, Copy, PartialEq, Eq)]
 pub enum Piece {
     // no item is left
     End,
     // text, a DEL, or any command but KX: where the next item starts, and what is then remembered
-    Copied(usize, Remembered),
+    Copied {
+        next: usize,
+        after: Remembered,
+    },
     // KX: its number, where the next item starts, and what is then remembered
-    Called(i32, usize, Remembered),
-    // a refused or cut command: 17
-    Refused,
+    Called {
+        number: i32,
+        next: usize,
+        after: Remembered,
+    },
 }
 
 // The letters of a macro's call.
 fn is_call(first: u8, second: u8) -> bool
     ensures { result ≡ is_call first second }
 {
-    if first == b'K' {
-        return second == b'X';
-    }
-    false
+    first == b'K' && second == b'X'
 }
 
+#[tactic(auto, using(crate::proofs::Reading::calls))]
 fn command_piece(taken: TakenCommand) -> Piece
-    ensures { piece_of result ≡ command_piece taken.command.first taken.command.second (values_of taken.command.parameters) taken.next taken.kept }
+    ensures { piece_of (Ok result) ≡ command_piece taken.command.first taken.command.second (values_of taken.command.parameters) taken.next taken.kept }
 {
     let command = taken.command;
     let next = taken.next;
     let after = taken.kept;
     if is_call(command.first, command.second) {
-        let parameters = command.parameters;
-        let number = commands::leading_number(parameters);
-        return Piece::Called(number, next, after);
+        let number = commands::leading_number(command.parameters);
+        Piece::Called {
+            number,
+            next,
+            after,
+        }
+    } else {
+        Piece::Copied { next, after }
     }
-    Piece::Copied(next, after)
 }
 
-// The piece of the command whose ESC is at `start`.
-fn piece_at_escape(kept: Remembered, body: &[u8], start: usize) -> Piece
+// The piece of the command whose ESC is at `start`. "macro body holds a refused or cut command": 17, whichever refusal and place it has.
+#[tactic(auto, using(crate::proofs::Reading::escapes))]
+fn piece_at_escape(kept: Remembered, body: &[u8], start: usize) -> Result<Piece, Refusal>
     ensures { piece_of result ≡ item_piece kept (told_item (command_item kept body.now start most_entries)) }
 {
     match commands::skim_command(kept, body, start) {
-        CommandRead::Whole(taken) => command_piece(taken),
-        CommandRead::Refused(_, _) => Piece::Refused,
+        Ok(taken) => Ok(command_piece(taken)),
+        Err(_) => Err(Refusal::BodyRefused),
     }
 }
 
 // "Outside commands each byte but 27 is a text item", or a DEL: whether one starts at `start`, from a remembered point inside.
+#[tactic(auto, using(refusals::proofs::Rules::tests), unfolding(crate::specs::Pieces::is_byte))]
 fn is_byte(kept: Remembered, body: &[u8], start: usize) -> bool
     ensures { result ≡ is_byte kept body.now start }
 {
-    if start >= body.len() {
-        return false;
-    }
-    if body[start] == 27 {
-        return false;
-    }
-    let point = kept.point;
-    memory::is_inside(point)
+    start < body.len() && body[start] != 27 && memory::is_inside(kept.point)
 }
 
-// The piece of a body that starts at `start`. Most are bytes outside commands, so that these are asked for first.
-pub fn piece_at(kept: Remembered, body: &[u8], start: usize) -> Piece
+// The piece of a body that starts at `start`. Most are bytes outside commands, so that these are asked for first. 17 is the one refusal.
+#[tactic(auto, using(crate::proofs::Reading::places))]
+pub fn piece_at(kept: Remembered, body: &[u8], start: usize) -> Result<Piece, Refusal>
     ensures { piece_of result ≡ piece_at kept body.now start }
 {
     if is_byte(kept, body, start) {
-        let next = start + 1;
-        return Piece::Copied(next, kept);
+        return Ok(Piece::Copied {
+            next: start + 1,
+            after: kept,
+        });
     }
-    if start > body.len() {
-        return Piece::Refused;
+    if start > body.len() || !memory::is_inside(kept.point) {
+        return Err(Refusal::BodyRefused);
     }
-    let point = kept.point;
-    if memory::is_inside(point) {
-        if start == body.len() {
-            return Piece::End;
-        }
-        return piece_at_escape(kept, body, start);
+    if start == body.len() {
+        return Ok(Piece::End);
     }
-    Piece::Refused
+    piece_at_escape(kept, body, start)
 }

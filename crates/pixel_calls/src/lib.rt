@@ -3,37 +3,45 @@
 
 ghost use Rattle.std.specs.Prelude.{◌≡◌, length};
 ghost use Rattle.coordinates.specs.Coordinates.{point_given};
-ghost use Rattle.beam.specs.Settings.{setting_of, make_fresh, set_bits, set_viewport, set_beam, make_step};
-ghost use Rattle.pixels.specs.Writes.{drawing_of, draw_raster, raster_surface, draw_runs, runs_surface};
+ghost use Rattle.beam.specs.Settings.{settled_by, make_fresh, set_bits, set_viewport, set_beam, make_step};
+ghost use Rattle.pixels.specs.Writes.{drawn_by, draw_raster, raster_surface, draw_runs, runs_surface};
 ghost use Rattle.pixel_calls.specs.Fields.{beam_in, fields_of};
 ghost use Rattle.pixel_calls.specs.Promises.{HandsSettled, HandsWritten, BitsHanded, RasterHanded, RasterLeaves, RunsHanded, RunsLeave};
 
-use beam::{Beam, Setting};
-use pixels::Drawing;
+use beam::{Beam, Size};
+use pixels::Drawn;
+use refusals::Refusal;
+
+// What a refused fresh record hands back.
+const NO_BEAM: Beam = Beam {
+    bits: 0,
+    left: 0,
+    bottom: 0,
+    right: 0,
+    top: 0,
+    x: 0,
+    y: 0,
+};
 
 // ---- the record
 
+#[tactic(auto, unfolding(crate::specs::Fields::beam_in))]
 fn beam_in(fields: &[usize; 7]) -> Beam
     ensures { result ≡ beam_in fields.now }
 {
-    let bits = fields[0];
-    let left = fields[1];
-    let bottom = fields[2];
-    let right = fields[3];
-    let top = fields[4];
-    let x = fields[5];
-    let y = fields[6];
+    let [bits, left, bottom, right, top, x, y] = *fields;
     Beam {
-        bits: bits,
-        left: left,
-        bottom: bottom,
-        right: right,
-        top: top,
-        x: x,
-        y: y,
+        bits,
+        left,
+        bottom,
+        right,
+        top,
+        x,
+        y,
     }
 }
 
+#[tactic(auto, unfolding(crate::specs::Fields::fields_of))]
 fn fields_of(beam: Beam) -> [usize; 7]
     ensures { result ≡ fields_of beam }
 {
@@ -50,58 +58,43 @@ fn fields_of(beam: Beam) -> [usize; 7]
 
 // ---- what an answer hands back
 
-// 0 or the refusal's number, the number of pixels, and the record.
-#[derive(Clone, Copy)]
-struct Handed {
-    number: u8,
-    count: usize,
-    fields: [usize; 7],
-}
-
-fn of_setting(setting: Setting) -> Handed
-    ensures { HandsSettled (setting_of setting) result.number result.fields }
+// 0 and the new record, or the refusal's number and the record as it came.
+#[tactic(auto, unfolding(beam::specs::Settings::settled_by))]
+fn hand(fields: &mut [usize; 7], came: Beam, setting: Result<Beam, Refusal>) -> u8
+    ensures { HandsSettled (settled_by came setting) result fields.new }
 {
     match setting {
-        Setting::Set(beam) => {
-            let fields = fields_of(beam);
-            Handed {
-                number: 0,
-                count: 0,
-                fields: fields,
-            }
+        Ok(beam) => {
+            *fields = fields_of(beam);
+            0
         }
-        Setting::Refused(e, beam) => {
-            let number = refusals::number(e);
-            let fields = fields_of(beam);
-            Handed {
-                number: number,
-                count: 0,
-                fields: fields,
-            }
+        Err(e) => {
+            *fields = fields_of(came);
+            e.number()
         }
     }
 }
 
-fn of_drawing(drawing: Drawing) -> Handed
-    ensures { HandsWritten (drawing_of drawing) result.number result.count result.fields }
+// The same of a write, with the number of pixels.
+#[tactic(auto, unfolding(pixels::specs::Writes::drawn_by))]
+fn hand_written(
+    fields: &mut [usize; 7],
+    count: &mut usize,
+    came: Beam,
+    drawing: Result<Drawn, Refusal>,
+) -> u8
+    ensures { HandsWritten (drawn_by came drawing) result count.new fields.new }
 {
     match drawing {
-        Drawing::Drawn(n, beam) => {
-            let fields = fields_of(beam);
-            Handed {
-                number: 0,
-                count: n,
-                fields: fields,
-            }
+        Ok(drawn) => {
+            *fields = fields_of(drawn.beam);
+            *count = drawn.count;
+            0
         }
-        Drawing::Refused(e, beam) => {
-            let number = refusals::number(e);
-            let fields = fields_of(beam);
-            Handed {
-                number: number,
-                count: 0,
-                fields: fields,
-            }
+        Err(e) => {
+            *fields = fields_of(came);
+            *count = 0;
+            e.number()
         }
     }
 }
@@ -111,14 +104,12 @@ fn of_drawing(drawing: Drawing) -> Handed
 pub fn ardh_fresh(w: usize, h: usize, fields: &mut [usize; 7]) -> u8
     ensures { HandsSettled (make_fresh w h) result fields.new }
 {
-    let setting = beam::fresh(w, h);
-    let handed = of_setting(setting);
-    let back = handed.fields;
-    *fields = back;
-    handed.number
+    let setting = beam::fresh(Size { w, h });
+    hand(fields, NO_BEAM, setting)
 }
 
 // RU
+#[tactic(auto, using(crate::proofs::Answers::bits_given))]
 pub fn ardh_set_bits(
     w: usize,
     h: usize,
@@ -129,14 +120,13 @@ pub fn ardh_set_bits(
 ) -> u8
     ensures { BitsHanded w h fields.old first second third result fields.new }
 {
-    let setting = beam::set_bits(w, h, beam_in(fields), first, second, third);
-    let handed = of_setting(setting);
-    let back = handed.fields;
-    *fields = back;
-    handed.number
+    let came = beam_in(fields);
+    let setting = beam::set_bits(Size { w, h }, came, first, second, third);
+    hand(fields, came, setting)
 }
 
 // RS
+#[tactic(auto, using(crate::proofs::Answers::viewport_given))]
 pub fn ardh_set_viewport(
     w: usize,
     h: usize,
@@ -148,41 +138,37 @@ pub fn ardh_set_viewport(
 ) -> u8
     ensures { HandsSettled (set_viewport w h (beam_in fields.old) (point_given x y) (point_given x2 y2)) result fields.new }
 {
+    let came = beam_in(fields);
     let from = coordinates::point_given(x, y);
     let to = coordinates::point_given(x2, y2);
-    let setting = beam::set_viewport(w, h, beam_in(fields), from, to);
-    let handed = of_setting(setting);
-    let back = handed.fields;
-    *fields = back;
-    handed.number
+    let setting = beam::set_viewport(Size { w, h }, came, from, to);
+    hand(fields, came, setting)
 }
 
 // RH
+#[tactic(auto, using(crate::proofs::Answers::beam_given))]
 pub fn ardh_set_beam(w: usize, h: usize, fields: &mut [usize; 7], x: i32, y: i32) -> u8
     ensures { HandsSettled (set_beam w h (beam_in fields.old) (point_given x y)) result fields.new }
 {
+    let came = beam_in(fields);
     let to = coordinates::point_given(x, y);
-    let setting = beam::set_beam(w, h, beam_in(fields), to);
-    let handed = of_setting(setting);
-    let back = handed.fields;
-    *fields = back;
-    handed.number
+    let setting = beam::set_beam(Size { w, h }, came, to);
+    hand(fields, came, setting)
 }
 
 // One step of the beam.
 pub fn ardh_step(w: usize, h: usize, fields: &mut [usize; 7]) -> u8
     ensures { HandsSettled (make_step w h (beam_in fields.old)) result fields.new }
 {
-    let setting = beam::step_on(w, h, beam_in(fields));
-    let handed = of_setting(setting);
-    let back = handed.fields;
-    *fields = back;
-    handed.number
+    let came = beam_in(fields);
+    let setting = beam::step_on(Size { w, h }, came);
+    hand(fields, came, setting)
 }
 
 // ---- the two writes
 
 // RP
+#[tactic(auto, using(crate::proofs::Answers::raster_given, crate::proofs::Answers::raster_laid))]
 pub fn ardh_draw_raster(
     surface: &mut [u8],
     w: usize,
@@ -195,12 +181,9 @@ pub fn ardh_draw_raster(
     ensures raster_handed { RasterHanded w h fields.old surface.old n characters.now result count.new fields.new }
     ensures raster_leaves { RasterLeaves w h fields.old surface.old n characters.now surface.new }
 {
-    let drawing = pixels::draw_raster(surface, w, h, beam_in(fields), n, characters);
-    let handed = of_drawing(drawing);
-    let back = handed.fields;
-    *fields = back;
-    *count = handed.count;
-    handed.number
+    let came = beam_in(fields);
+    let drawing = pixels::draw_raster(surface, Size { w, h }, came, n, characters);
+    hand_written(fields, count, came, drawing)
 }
 
 // RL
@@ -215,10 +198,7 @@ pub fn ardh_draw_runs(
     ensures runs_handed { RunsHanded w h fields.old surface.old codes.now result count.new fields.new }
     ensures runs_leave { RunsLeave w h fields.old surface.old codes.now surface.new }
 {
-    let drawing = pixels::draw_runs(surface, w, h, beam_in(fields), codes);
-    let handed = of_drawing(drawing);
-    let back = handed.fields;
-    *fields = back;
-    *count = handed.count;
-    handed.number
+    let came = beam_in(fields);
+    let drawing = pixels::draw_runs(surface, Size { w, h }, came, codes);
+    hand_written(fields, count, came, drawing)
 }

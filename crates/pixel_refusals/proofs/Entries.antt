@@ -29,9 +29,6 @@ module _ (l : List ℤ) (i : ℕ) where
       let n : length (map nat_abs l) ≤ i = rw (length-map l nat_abs) h in
       drop_of_length-le (map nat_abs l) n
 
-  pub entry_behind : length l ≤ i → 0 ≡ get_or (map nat_abs l) i 0
-  entry_behind h = sym (get_or-eq_default (map nat_abs l) 0 (rw (length-map l nat_abs) h))
-
 -- what passes for each passes for the one at i
 pub every-at : {A : Type 0} (ok : A → Bool) (l : List A) (d : A) (i : ℕ) → every ok l ≡ true → i < length l → ok (get_or l i d) ≡ true
 unfolding every

@@ -176,6 +176,10 @@ module _ (w h size : ℕ) (beam : Beam) where
       unfolding refusal_of run_refusal
       runs_allowed t = rw (goes_on none _, sym ea ∙ t)
 
+pub ruleset raster_verdicts = (bits_some, bits_six, raster_first, raster_numbered, raster_wrong, raster_allowed)
+
+pub ruleset run_verdicts = (runs_first, runs_wrong, runs_allowed)
+
 -- ---- what an allowed write has passed
 
 module _ (w h size : ℕ) (beam : Beam) (n : ℤ) (list : List ℤ) (z : raster_refusal w h size beam n list ≡ 0) where

@@ -82,7 +82,7 @@ fn write_verdict(size: Size, bytes: usize, beam: Beam) -> Result<(), Refusal>
 }
 
 // RP: then 8 for N or for too many characters, then 10.
-#[tactic(auto, using(crate::proofs::Looking::bits_some, crate::proofs::Looking::bits_six, crate::proofs::Looking::raster_numbered, crate::proofs::Looking::raster_wrong, crate::proofs::Looking::raster_allowed, crate::proofs::Looking::raster_first))]
+#[tactic(auto, using(crate::proofs::Looking::raster_verdicts))]
 pub fn raster_verdict(
     size: Size,
     bytes: usize,
@@ -103,7 +103,7 @@ pub fn raster_verdict(
 }
 
 // RL: then 8 for a code or for too many of them.
-#[tactic(auto, using(crate::proofs::Looking::runs_wrong, crate::proofs::Looking::runs_allowed, crate::proofs::Looking::runs_first))]
+#[tactic(auto, using(crate::proofs::Looking::run_verdicts))]
 pub fn run_verdict(size: Size, bytes: usize, beam: Beam, list: &[i32]) -> Result<(), Refusal>
     ensures { refusal_of result ≡ run_refusal size.w size.h bytes beam list.now }
 {

@@ -1,7 +1,7 @@
 -- The spelling of a point, poured byte by byte, and its writing.
 use Prim.Native.Nat.{ℕ, ◌+◌}
 use mathlib.Core.Path.{◌≡◌, refl, ◌∙◌, ap}
-use mathlib.Core.Bool.{Bool, false, ◌&&◌}
+use mathlib.Core.Bool.{Bool, false}
 use mathlib.Core.List.{List, [], ◌∷◌, ◌++◌}
 use native.Mathlib.Omega.{arith}
 use lib.Dec.{eqb}
@@ -15,7 +15,7 @@ use Rattle.refusals.proofs.Rules.{tests}
 use Rattle.wire.proofs.Writings.{more_size, more_stands, pours_size, pours_stand, none_size, none_stand, outside, none_changed, poured-so, poured-stands}
 use Rattle.points.specs.declared.PointBytes.{PointBytes}
 use Rattle.points.specs.Layout.{bytes_of}
-use Rattle.points.specs.Writing.{part, upper_bytes, spell_bytes, spell_point}
+use Rattle.points.specs.Writing.{part, omits_lo_y, upper_bytes, spell_bytes, spell_point}
 use Rattle.points.proofs.Insides.{both_outside, both_inside, first_inside, second_inside}
 
 -- ---- pouring the parts, each behind those before it
@@ -45,14 +45,13 @@ module _ (kept : Remembered) (a b : PointBytes) (y : Bool) {one two : ℕ}
       let g₂ = more_stands kept (part (eqb a.hiy b.hiy) b.hiy) (part (eqb a.extra b.extra) b.extra) l at s₁ g₁ f₂ in
       more_stands kept (part (eqb a.hiy b.hiy) b.hiy ++ part (eqb a.extra b.extra) b.extra) (part y b.loy) l at s₂ g₂ f₃
 
-module _ (kept : Remembered) (a b : PointBytes) {x y : Bool} {upper most : ℕ}
-    (ex : x ≡ eqb a.extra b.extra && eqb a.hix b.hix)
-    (ey : y ≡ eqb a.loy b.loy && x)
+module _ (kept : Remembered) (a b : PointBytes) {y : Bool} {upper most : ℕ}
+    (ey : y ≡ omits_lo_y a b)
     (e₃ : upper ≡ length (sent kept (upper_bytes a b y)))
     (e₄ : most ≡ upper + length (sent kept (part (eqb a.hix b.hix) b.hix))) where
   all_parts : upper_bytes a b y ++ part (eqb a.hix b.hix) b.hix ++ (b.lox ∷ []) ≡ spell_bytes a b
   unfolding spell_bytes
-  all_parts = rw (ey, ex)
+  all_parts = rw ey
 
   s₄ : most ≡ length (sent kept (upper_bytes a b y ++ part (eqb a.hix b.hix) b.hix))
   s₄ = e₄ ∙ more_size kept (upper_bytes a b y) (part (eqb a.hix b.hix) b.hix) e₃ refl

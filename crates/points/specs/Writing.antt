@@ -16,11 +16,14 @@ abbrev pub upper_bytes : (last this : PointBytes) → (leftOut : Bool) → List 
 upper_bytes a b leftOut = part (eqb a.hiy b.hiy) b.hiy ++ part (eqb a.extra b.extra) b.extra ++ part leftOut b.loy
 
 -- LoY may be left out only with Extra and HiX: "Extra needs LoY after it, and HiX needs LoY before it"
+abbrev pub omits_lo_y : (last this : PointBytes) → Bool
+omits_lo_y a b = eqb a.loy b.loy && (eqb a.extra b.extra && eqb a.hix b.hix)
+
 unfoldable pub spell_bytes : (last this : PointBytes) → List ℕ
 spell_bytes a b =
     part (eqb a.hiy b.hiy) b.hiy
     ++ part (eqb a.extra b.extra) b.extra
-    ++ part (eqb a.loy b.loy && (eqb a.extra b.extra && eqb a.hix b.hix)) b.loy
+    ++ part (omits_lo_y a b) b.loy
     ++ part (eqb a.hix b.hix) b.hix
     ++ (b.lox ∷ [])
 

@@ -128,10 +128,6 @@ three s at =
     (λ e p g. not_done (Three s at) e p))
     (λ e p f. not_done (Three s at) e p))
 
-pub three-bytes : (s : List ℕ) (at : ℕ) {r : Taken ℤ} → report_at s at ≡ done r → (r.next ≡ at + 3) × (at + 3 ≤ length s)
-unfolding Three
-three-bytes s at e = done-of (Three s at) (three s at) e
-
 -- a count keeps the place behind its integer
 pub behind : (most : ℕ) (P : ℕ → Type 0) (a : Answer (Taken ℤ)) → Done (λ r. P r.next) a → Done (λ r. P r.next) (count_in most a)
 unfolding count_in Done

@@ -1,7 +1,7 @@
 -- Reading an item, by what its parts gave.
 use Prim.Native.Nat.{ℕ, ◌+◌, ◌≤◌, ◌<◌}
 use mathlib.Core.Path.{◌≡◌, refl, sym, ◌∙◌, ap}
-use mathlib.Core.Bool.{Bool, true, false, not}
+use mathlib.Core.Bool.{Bool, false, not}
 use mathlib.Core.List.{List}
 use native.Mathlib.Omega.{arith}
 use borrow.Author.Tests.{eq-eqb, ne_eqb}
@@ -9,7 +9,6 @@ use lib.Dec.{eqb}
 use lib.ListN.{length, get_or}
 use lib.IntN.{ℤ}
 use Rattle.memory.specs.declared.DelMode.{DelMode}
-use Rattle.memory.specs.declared.DelMode.TheVariants.{Data, Filler}
 use Rattle.memory.specs.declared.Remembered.{Remembered}
 use Rattle.std.specs.Prelude.{Result, Ok, Err}
 use Rattle.refusals.specs.declared.Refusal.{Refusal}
@@ -23,7 +22,7 @@ use Rattle.refusals.proofs.Passing.{Passing, passing_none, passing_more, passing
 use Rattle.commands.specs.declared.TakenCommand.{TakenCommand}
 use Rattle.commands.specs.Reading.{Meaning, ToldCommand, tell, told, command_of, command_at, after_entries}
 use Rattle.stream.specs.declared.Item.{Item}
-use Rattle.stream.specs.declared.Item.TheVariants.{Text, Del}
+use Rattle.stream.specs.declared.Item.TheVariants.{Text}
 use Rattle.stream.specs.Items.{command, no_escape, passed_from, is_filler, byte_item, as_item, command_item, told_item, item_of, after_item}
 
 -- ---- passing over
@@ -48,27 +47,10 @@ pub ruleset passing = (starts, passes_over, stops-there, stops-at_end)
 -- ---- a byte outside commands
 
 module _ (m : DelMode) (b : ℕ) where
-  pub data_fills_not : m ≡ Data → false ≡ is_filler m b
-  unfolding is_filler
-  data_fills_not e = rw e
-
-  pub filler_tested : {t : Bool} → m ≡ Filler → t ≡ eqb b 127 → t ≡ is_filler m b
-  unfolding is_filler
-  filler_tested e j = rw e j
-
   module _ (n : ℕ) {t : Bool} (et : t ≡ is_filler m b) where
-    pub a_del : t ≡ true → item_of (Del (record { next = n })) ≡ told_item (byte_item m b n)
-    unfolding item_of told_item
-    a_del g = rw (← et, g)
-
     pub a_text : t ≡ false → item_of (Text (record { byte = b; next = n })) ≡ told_item (byte_item m b n)
     unfolding item_of told_item
     a_text g = rw (← et, g)
-
--- such an item leaves the list
-byte_list : (m : DelMode) (b n : ℕ) (l : List ℤ) → l ≡ after_item (byte_item m b n) l
-unfolding after_item
-byte_list m b n l = by_pick (λ i. l ≡ after_item i l) (is_filler m b) _ _ (λ t. refl) (λ t. refl)
 
 -- ---- the item of a command
 

@@ -1,9 +1,8 @@
 -- Passing over DELs: each way out of the loop, and the two modes.
 use Prim.Native.Nat.{ℕ, ◌+◌, ◌≤◌, ◌<◌}
-use mathlib.Core.Path.{◌≡◌, sym, ◌∙◌}
-use mathlib.Core.Bool.{true, false}
+use mathlib.Core.Path.{◌≡◌}
 use mathlib.Core.List.{List}
-use borrow.Author.Tests.{lt-ltb, eq-eqb, ne_eqb}
+use borrow.Author.Tests.{eq-eqb, ne_eqb}
 use lib.ListN.{length, get_or}
 use Rattle.memory.specs.declared.DelMode.{DelMode}
 use Rattle.memory.specs.declared.DelMode.TheVariants.{Data, Filler}
@@ -11,8 +10,7 @@ use Rattle.memory.specs.declared.Remembered.{Remembered}
 use Rattle.refusals.specs.declared.Taken.{Taken}
 use Rattle.refusals.specs.Answers.{Answer, past_front}
 use Rattle.refusals.proofs.Passing.{Passing, passing_none, passing_more, passing_stop, passing_end}
-use Rattle.wire.specs.Taking.{is_del, past_dels, pair_at, found_at, byte_at}
-use Rattle.wire.specs.Sending.{plain_in, is_plain}
+use Rattle.wire.specs.Taking.{is_del, past_dels, found_at, byte_at}
 
 module _ (s : List ℕ) (at i : ℕ) (f : Passing is_del s at i) where
   pub passes_del : i < length s → get_or s i 0 ≡ 127 → Passing is_del s at (i + 1)
@@ -40,20 +38,7 @@ module _ (m : DelMode) (s : List ℕ) (at : ℕ) where
   unfolding past_dels
   dels_filler e j = rw e j
 
-module _ (kept : Remembered) {m : DelMode} (em : m ≡ kept.mode) where
-  pub plain_data : m ≡ Data → true ≡ is_plain kept
-  unfolding is_plain plain_in
-  plain_data e = rw (sym em ∙ e)
-
-  pub plain_filler : m ≡ Filler → false ≡ is_plain kept
-  unfolding is_plain plain_in
-  plain_filler e = rw (sym em ∙ e)
-
 -- ---- the byte behind them
-
-pub found_escape : (m : DelMode) (s : List ℕ) (at : ℕ) {p : ℕ} {q : Answer (Taken ℕ)} → at < length s → get_or s at 0 ≡ 27 → p ≡ past_dels m s (at + 1) → q ≡ pair_at s at p → q ≡ found_at m s at
-unfolding found_at
-found_escape m s at h e f j = rw (lt-ltb at (length s) h, e, ← f) j
 
 pub found_behind : (kept : Remembered) (s : List ℕ) (at : ℕ) {m : DelMode} {p : ℕ} {q : Answer (Taken ℕ)} → m ≡ kept.mode → p ≡ past_dels m s at → q ≡ found_at m s p → q ≡ byte_at kept s at
 unfolding byte_at

@@ -1,10 +1,10 @@
 -- What `take` gives, one byte after the other. The laws of a parameter go by this and say nothing of how a byte is sent.
 use Prim.Native.Nat.{ℕ, ◌+◌, ◌≤◌, ◌<◌}
 use mathlib.Core.Path.{◌≡◌, refl, sym, ◌∙◌, ap}
-use mathlib.Core.Bool.{Bool, true, false, ◌&&◌}
+use mathlib.Core.Bool.{Bool, true, false}
 use mathlib.Core.List.{List, [], ◌∷◌, ◌++◌}
 use native.Mathlib.Omega.{arith}
-use borrow.Author.Tests.{lt-ltb, le-ltb, le-leb, lt-leb, ne_eqb, ltb-true, ltb-false, leb-true, eqb-true, eqb-false}
+use borrow.Author.Tests.{lt-ltb, le-ltb, le-leb, ne_eqb, ltb-true, ltb-false, leb-true, eqb-true, eqb-false}
 use lib.Dec.{leb, ltb, eqb}
 use lib.ListN.{length, get_or, length-append, get_or-append}
 use lib.Seq.{get_or-append-add}
@@ -16,7 +16,6 @@ use Rattle.refusals.specs.Refusals.{number_of}
 use Rattle.refusals.specs.declared.Taken.{Taken}
 use Rattle.refusals.specs.Answers.{done, refused, answer_at, pick, past_front}
 use Rattle.refusals.proofs.Cases.{by_pick, and_left, and_right, Done, done-of, done-map, is-done, not_done}
-use Rattle.refusals.proofs.Many.{Checking, checking_none, checking_more, checking_end}
 use Rattle.refusals.proofs.Passing.{past_here, past_on, past_within, past_stops}
 use Rattle.std.specs.Prelude.{Result, Ok, Err}
 use Rattle.wire.specs.Taking.{is_del, past_dels, pair_at, found_at, byte_at, most_itself, is_itself}
@@ -113,25 +112,11 @@ pub most-filler : {m : DelMode} → m ≡ Filler → 126 ≡ most_itself m
 unfolding most_itself
 most-filler e = rw e
 
-pub itself_no : (m : DelMode) (b : ℕ) → b < 32 → false ≡ is_itself m b
-unfolding is_itself
-itself_no m b h = rw (lt-leb 32 b h)
-
-pub itself_yes : (m : DelMode) (b : ℕ) {n : ℕ} → 32 ≤ b → n ≡ most_itself m → leb b n ≡ is_itself m b
-unfolding is_itself
-itself_yes m b h e = rw (le-leb 32 b h, e)
-
 -- whatever is remembered
 pub itself_any : (m : DelMode) (b : ℕ) → 32 ≤ b → b < 127 → is_itself m b ≡ true
 unfolding is_itself most_itself
 itself_any Data b l h = rw (le-leb 32 b l, le-leb b 127 (omega arith))
 itself_any Filler b l h = rw (le-leb 32 b l, le-leb b 126 (omega arith))
-
--- one byte after the other
-pub itself_more : (m : DelMode) (w : List ℕ) (i : ℕ) {good b next : Bool} → Checking (is_itself m) w i good → i < length w → b ≡ is_itself m (get_or w i 0) → next ≡ good && b → Checking (is_itself m) w (i + 1) next
-itself_more m w i f h eb en = checking_more (is_itself m) w 0 i (get_or w i 0) f h refl eb en
-
-pub ruleset themselves = (checking_none, itself_more, checking_end)
 
 itself_found : (m : DelMode) (s : List ℕ) (at : ℕ) → at < length s → 32 ≤ get_or s at 0 → get_or s at 0 ≤ most_itself m → found_at m s (past_dels m s at) ≡ done (record { value = get_or s at 0; place = at; next = at + 1 })
 unfolding most_itself

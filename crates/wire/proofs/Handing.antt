@@ -1,16 +1,10 @@
 -- What a call that writes hands out: a number, how far the bytes reach, and the lent bytes.
 use Prim.Native.Nat.{ℕ}
-use mathlib.Core.Path.{◌≡◌, sym, ◌∙◌}
-use mathlib.Core.List.{List}
+use mathlib.Core.Path.{◌≡◌, sym}
 use Rattle.refusals.specs.declared.Refusal.{Refusal}
 use Rattle.refusals.specs.Refusals.{number_of}
 use Rattle.refusals.specs.Answers.{Answer, answer_of, number, value_or}
 use Rattle.std.specs.Prelude.{Result, Ok, Err}
-use Rattle.wire.specs.Sending.{after_write}
-
-module _ (r : Result ℕ Refusal) {d : Answer ℕ} (e : answer_of r ≡ d) where
-  pub written_out : {w x : List ℕ} → w ≡ x → (l : List ℕ) (at : ℕ) {o : List ℕ} → o ≡ after_write (answer_of r) w l at → o ≡ after_write d x l at
-  written_out ew l at j = j ∙ rw (e, ew)
 
 module _ {r : Result ℕ Refusal} {d : Answer ℕ} (e : answer_of r ≡ d) where
   module _ {n : ℕ} (g : r ≡ Ok n) where

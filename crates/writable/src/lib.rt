@@ -8,9 +8,9 @@ ghost use Rattle.writable.specs.Writable.{kind_for, kind_number, is_kind, is_ent
 
 use commands::Command;
 use memory::Remembered;
-use parameters::{Entry, Parameters, Tail};
+use parameters::{Entry, Parameters};
 use ranges::MOST_ENTRIES;
-use table::{Found, Kind};
+use table::Kind;
 
 pub fn kind_number(kind: Kind) -> u8
     ensures { result ≡ kind_number (kind_meant kind) }
@@ -49,17 +49,11 @@ pub fn kind_of_parameters(parameters: Parameters) -> Kind
 }
 
 // Whether a command with these letters has parameters of this kind.
+#[tactic(auto, unfolding(crate::specs::Writable::is_kind, table::specs::Table::found_of))]
 fn letters_fit(first: u8, second: u8, parameters: Parameters) -> bool
     ensures { result ≡ is_kind first second parameters }
 {
-    match table::kind_of(first, second) {
-        Found::Is(kind) => {
-            let wanted = kind_number(kind);
-            let given = kind_number(kind_of_parameters(parameters));
-            wanted == given
-        }
-        Found::NoKind => false,
-    }
+    table::kind_of(first, second) == Some(kind_of_parameters(parameters))
 }
 
 fn is_entry(entry: Entry, v: i32) -> bool
@@ -71,15 +65,14 @@ fn is_entry(entry: Entry, v: i32) -> bool
     }
 }
 
+#[tactic(auto, using(refusals::proofs::Many::checkings, crate::proofs::Fitting::entry_next))]
 fn are_entries(entry: Entry, list: &[i32]) -> bool
     ensures { result ≡ are_entries entry list.now }
 {
-    let mut i = 0;
+    // with no way out of the middle several entries are tested at once
     let mut good = true;
-    while i < list.len() {
-        let v = list[i];
-        good = refusals::both(good, is_entry(entry, v));
-        i = i + 1;
+    for v in list {
+        good = good & is_entry(entry, *v);
     }
     good
 }
@@ -87,30 +80,34 @@ fn are_entries(entry: Entry, list: &[i32]) -> bool
 fn two_entries_fit(entry: Entry, a: i32, b: i32) -> bool
     ensures { result ≡ is_entry entry a && is_entry entry b }
 {
-    refusals::both(is_entry(entry, a), is_entry(entry, b))
+    is_entry(entry, a) & is_entry(entry, b)
 }
 
+fn three_integers_fit(a: i32, b: i32, d: i32) -> bool
+    ensures { result ≡ is_entry Entry.AnInteger a && (is_entry Entry.AnInteger b && is_entry Entry.AnInteger d) }
+{
+    is_entry(Entry::AnInteger, a) & two_entries_fit(Entry::AnInteger, b, d)
+}
+
+#[tactic(auto, using(refusals::proofs::Cases::and_true), unfolding(refusals::specs::Answers::every))]
 fn values_fit(parameters: Parameters) -> bool
     ensures { result ≡ are_values (values_of parameters) }
 {
     match parameters {
         Parameters::OneInteger(a) => is_entry(Entry::AnInteger, a),
         Parameters::TwoIntegers(a, b) => two_entries_fit(Entry::AnInteger, a, b),
-        Parameters::ThreeIntegers(a, b, d) => refusals::both(
-            two_entries_fit(Entry::AnInteger, a, b),
-            is_entry(Entry::AnInteger, d),
-        ),
+        Parameters::ThreeIntegers(a, b, d) => three_integers_fit(a, b, d),
         Parameters::OnePoint(p) => memory::is_inside(p),
-        Parameters::TwoPoints(p, q) => refusals::both(memory::is_inside(p), memory::is_inside(q)),
+        Parameters::TwoPoints(p, q) => memory::is_inside(p) & memory::is_inside(q),
         Parameters::AReal(r) => two_entries_fit(Entry::AnInteger, r.mantissa, r.exponent),
         Parameters::TwoCharacters(a, b) => two_entries_fit(Entry::ACharacter, a, b),
-        Parameters::AString => true,
-        Parameters::AnArray => true,
+        Parameters::AString | Parameters::AnArray => true,
         Parameters::IntegerThenString(a) => is_entry(Entry::AnInteger, a),
         Parameters::IntegerThenArray(a) => is_entry(Entry::AnInteger, a),
     }
 }
 
+#[tactic(auto, using(refusals::proofs::Rules::tests), unfolding(crate::specs::Writable::is_tail))]
 fn list_fits(entry: Entry, list: &[i32]) -> bool
     ensures { result ≡ is_tail (list_of entry) list.now }
 {
@@ -120,27 +117,29 @@ fn list_fits(entry: Entry, list: &[i32]) -> bool
     are_entries(entry, list)
 }
 
+#[tactic(auto, unfolding(crate::specs::Writable::is_tail))]
 fn tail_fits(parameters: Parameters, list: &[i32]) -> bool
     ensures { result ≡ is_tail (tail_of parameters) list.now }
 {
     match parameters::tail_of(parameters) {
-        Tail::NoList => true,
-        Tail::ListOf(entry) => list_fits(entry, list),
+        Some(entry) => list_fits(entry, list),
+        None => true,
     }
 }
 
 // What is asked of the remembered point, the values and the list.
+#[tactic(auto, unfolding(crate::specs::Writable::fits))]
 pub fn parameters_fit(kept: Remembered, parameters: Parameters, list: &[i32]) -> bool
     ensures { result ≡ fits kept parameters list.now }
 {
-    let values = refusals::both(values_fit(parameters), tail_fits(parameters, list));
-    refusals::both(memory::is_inside(kept.point), values)
+    memory::is_inside(kept.point) & (values_fit(parameters) & tail_fits(parameters, list))
 }
 
+#[tactic(auto, unfolding(crate::specs::Writable::is_command))]
 pub fn is_writable(kept: Remembered, command: Command, list: &[i32]) -> bool
     ensures { result ≡ is_command kept command list.now }
 {
     let parameters = command.parameters;
     let letters = letters_fit(command.first, command.second, parameters);
-    refusals::both(letters, parameters_fit(kept, parameters, list))
+    letters & parameters_fit(kept, parameters, list)
 }

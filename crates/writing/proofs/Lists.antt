@@ -14,12 +14,13 @@ use Rattle.memory.specs.declared.DelMode.{DelMode}
 use Rattle.memory.specs.declared.Point.{Point}
 use Rattle.memory.specs.declared.Remembered.{Remembered}
 use Rattle.memory.specs.Memory.{inside, remember}
-use Rattle.refusals.specs.Answers.{Answer}
+use Rattle.std.specs.Prelude.{Option, Some, None, Ok}
+use Rattle.refusals.specs.Answers.{Answer, answer_of}
 use Rattle.refusals.proofs.Cases.{and_left, and_right}
 use Rattle.refusals.proofs.Many.{sets_append, every-split}
-use Rattle.wire.specs.Sending.{sent, is_plain, poured, written_of, room_for, write_at, after_write}
-use Rattle.wire.specs.declared.Written.TheVariants.{Next}
+use Rattle.wire.specs.Sending.{sent, is_plain, poured, room_for, write_at, after_write}
 use Rattle.wire.proofs.Sendings.{sent-plain}
+use Rattle.wire.proofs.Writings.{outside, accepted, none_changed, standing}
 use Rattle.characters.specs.Characters.{as_bytes, low_bytes}
 use Rattle.characters.proofs.Entries.{all_bytes}
 use Rattle.numbers.specs.Integers.{spell}
@@ -27,14 +28,9 @@ use Rattle.numbers.proofs.Shortest.{integer-few}
 use Rattle.parameters.specs.declared.Entry.{Entry}
 use Rattle.parameters.specs.declared.Entry.TheVariants.{ACharacter}
 use Rattle.parameters.specs.declared.Parameters.{Parameters}
-use Rattle.parameters.specs.declared.LastPoint.{LastPoint}
-use Rattle.parameters.specs.declared.LastPoint.TheVariants.{NoPoint, Last}
-use Rattle.parameters.specs.declared.Tail.{Tail}
-use Rattle.parameters.specs.declared.Tail.TheVariants.{NoList, ListOf}
 use Rattle.parameters.specs.Shapes.{list_of, Pointed, no_point, last, tail_meant, point_meant, Value, number, scaled, place, values_of, tail_of, last_from, last_point}
 use Rattle.parameters.specs.Behind.{after_values}
 use Rattle.commands.specs.declared.Command.{Command}
-use Rattle.commands.specs.Behind.{leading, after_letters, after_command}
 use Rattle.writable.specs.Writable.{is_kind, is_entry, are_entries, are_values, is_tail, fits, is_command}
 use Rattle.writing.specs.Writing.{spell_entry, spell_entries, spell_values, spell_tail, spell_parameters, spell_command, Poured, most_written}
 use Rattle.writing.proofs.Sizes.{tail-kept, bytes-few}
@@ -60,22 +56,25 @@ unfolding spell_entries
 spell-cons e kept v vs = refl
 
 module _ (e : Entry) (kept : Remembered) (list : List ℤ) (out₀ out : List ℕ) (at i n : ℕ) (f : Entering e kept list out₀ out at i n) where
-  module _ (h : i < length list) (v : ℤ) (ev : v ≡ get_or list i (pos 0)) where
-    cons : drop i list ≡ v ∷ drop (i + 1) list
-    cons = drop-cons list i (pos 0) h ∙ rw (ev, add-one i)
+  module _ (h : i < length list) where
+    abbrev here : ℤ
+    here = get_or list i (pos 0)
 
-    oks : (is_entry e v ≡ true) × (are_entries e (drop (i + 1) list) ≡ true)
-    oks = every-split (is_entry e) v (drop (i + 1) list) (rw cons at f.ok)
+    cons : drop i list ≡ here ∷ drop (i + 1) list
+    cons = drop-cons list i (pos 0) h ∙ rw (add-one i) refl
 
-    pub entry_ok : (x : ℤ) → x ≡ v → is_entry e x ≡ true
+    oks : (is_entry e here ≡ true) × (are_entries e (drop (i + 1) list) ≡ true)
+    oks = every-split (is_entry e) here (drop (i + 1) list) (rw cons at f.ok)
+
+    pub entry_ok : (x : ℤ) → x ≡ get_or list i (pos 0) → is_entry e x ≡ true
     entry_ok x j = ap (is_entry e) j ∙ oks.0
 
-    parts : spell_entries e kept (drop i list) ≡ spell_entry e kept v ++ spell_entries e kept (drop (i + 1) list)
-    parts = ap (spell_entries e kept) cons ∙ spell-cons e kept v (drop (i + 1) list)
+    parts : spell_entries e kept (drop i list) ≡ spell_entry e kept here ++ spell_entries e kept (drop (i + 1) list)
+    parts = ap (spell_entries e kept) cons ∙ spell-cons e kept here (drop (i + 1) list)
 
-    pub entering-more : (x : ℤ) {o : List ℕ} {m : ℕ} → Poured (spell_entry e kept x) 4 out o (at + n) m → x ≡ v → Entering e kept list out₀ o at (i + 1) (n + m)
+    pub entering-more : (x : ℤ) {o : List ℕ} {m : ℕ} → Poured (spell_entry e kept x) 4 out o (at + n) m → x ≡ get_or list i (pos 0) → Entering e kept list out₀ o at (i + 1) (n + m)
     entering-more x {o} {m} g j =
-        let w = spell_entry e kept v in
+        let w = spell_entry e kept here in
         let rest = spell_entries e kept (drop (i + 1) list) in
         let s : m ≡ length w = g.size ∙ ap (λ (y : ℤ). length (spell_entry e kept y)) j in
         let t : o ≡ sets out (at + n) w = g.stand ∙ ap (λ (y : ℤ). sets out (at + n) (spell_entry e kept y)) j in
@@ -112,8 +111,8 @@ characters-spelled kept (v ∷ list) p =
     ap (λ (w : List ℕ). w ++ as_bytes list) (sym (sent-plain kept (nat_abs v ∷ []) p))
     ∙ ap (λ (w : List ℕ). sent kept (nat_abs v ∷ []) ++ w) (characters-spelled kept list p)
 
-pub characters-laid : (kept : Remembered) (list : List ℤ) (l o : List ℕ) (at : ℕ) {t : Bool} → t ≡ is_plain kept → t ≡ true → are_entries ACharacter list ≡ true → length list ≤ 256 → o ≡ sets l at (low_bytes list) → Poured (spell_entries ACharacter kept list) 1024 l o at (length list)
-characters-laid kept list l o at e h ok few j =
+pub characters_laid : (kept : Remembered) (list : List ℤ) (l o : List ℕ) (at : ℕ) {t : Bool} → t ≡ is_plain kept → t ≡ true → are_entries ACharacter list ≡ true → length list ≤ 256 → o ≡ sets l at (low_bytes list) → Poured (spell_entries ACharacter kept list) 1024 l o at (length list)
+characters_laid kept list l o at e h ok few j =
     let s = characters-spelled kept list (sym e ∙ h) in
     let b = all_bytes 32 list ok in
     record { size = sym (length-map list nat_abs) ∙ ap length s; stand = j ∙ ap (λ (y : List ℕ). sets l at y) (b ∙ s); few = omega arith }
@@ -157,14 +156,14 @@ module _ (e : Entry) (kept : Remembered) (list : List ℤ) (h : is_tail (list_of
 
 -- ---- the tail of each kind
 
-module _ (ps : Parameters) (es : List ℤ) {u : Tail} (eu : tail_meant u ≡ tail_of ps) where
-  pub tail-ok : {e : Entry} → is_tail (tail_of ps) es ≡ true → u ≡ ListOf e → is_tail (list_of e) es ≡ true
+module _ (ps : Parameters) (es : List ℤ) {u : Option Entry} (eu : tail_meant u ≡ tail_of ps) where
+  pub tail-ok : {e : Entry} → is_tail (tail_of ps) es ≡ true → u ≡ Some e → is_tail (list_of e) es ≡ true
   tail-ok h g = rw (← eu, g) at h
 
-  pub tail-poured : (kept : Remembered) (e : Entry) (l o : List ℕ) (at r : ℕ) → u ≡ ListOf e → Poured (spell_tail kept (list_of e) es) 1028 l o at r → Poured (spell_tail kept (tail_of ps) es) 1028 l o at r
+  pub tail-poured : (kept : Remembered) (e : Entry) (l o : List ℕ) (at r : ℕ) → u ≡ Some e → Poured (spell_tail kept (list_of e) es) 1028 l o at r → Poured (spell_tail kept (tail_of ps) es) 1028 l o at r
   tail-poured kept e l o at r g f = rw (← eu, g) f
 
-  pub no_tail : (kept : Remembered) (l : List ℕ) (at : ℕ) → u ≡ NoList → Poured (spell_tail kept (tail_of ps) es) 1028 l l at 0
+  pub no_tail : (kept : Remembered) (l : List ℕ) (at : ℕ) → u ≡ None → Poured (spell_tail kept (tail_of ps) es) 1028 l l at 0
   unfolding spell_tail
   no_tail kept l at g = rw (← eu, g) (record { size = refl; stand = refl; few = omega arith })
 
@@ -182,17 +181,14 @@ after-from kept b (scaled m x ∷ vs) = after-from kept b vs
 after-from kept no_point (place p ∷ vs) = after-from kept (last p) vs
 after-from kept (last q) (place p ∷ vs) = after-from kept (last p) vs
 
-module _ (kept : Remembered) (vs : List Value) {b : LastPoint} (eb : point_meant b ≡ last_point vs) where
-  pub kept-last : {p : Point} {k : Remembered} → b ≡ Last p → k ≡ remember kept p → k ≡ after_values kept vs
+module _ (kept : Remembered) (vs : List Value) {b : Option Point} (eb : point_meant b ≡ last_point vs) where
+  pub kept-last : {p : Point} {k : Remembered} → b ≡ Some p → k ≡ remember kept p → k ≡ after_values kept vs
   unfolding remembered
   kept-last g j = sym (after-from kept no_point vs ∙ rw (← eb, g, j))
 
-  pub kept-before : b ≡ NoPoint → kept ≡ after_values kept vs
+  pub kept_before : b ≡ None → kept ≡ after_values kept vs
   unfolding remembered
-  kept-before g = sym (after-from kept no_point vs ∙ rw (← eb, g))
-
-pub command-kept : (kept : Remembered) (c : Command) {k m : Remembered} → k ≡ after_values kept (values_of c.parameters) → m ≡ after_letters k c.first c.second (leading (values_of c.parameters)) → m ≡ after_command kept c.first c.second (values_of c.parameters)
-command-kept kept c e j = rw (← e) j
+  kept_before g = sym (after-from kept no_point vs ∙ rw (← eb, g))
 
 -- ---- the whole command
 
@@ -237,15 +233,15 @@ fitting kept c es e h = and_right (is_kind c.first c.second c.parameters) (fits 
 pub tested : {b t v : Bool} → t ≡ b → t ≡ v → b ≡ v
 tested e h = sym e ∙ h
 
-pub all_written : (kept : Remembered) (c : Command) (es : List ℤ) (l o : List ℕ) {m : DelMode} {size most : ℕ} (room : ℕ) → fits kept c.parameters es ≡ true → Poured (spell_command kept c es) 1043 l o 0 size → m ≡ kept.mode → most ≡ most_written m → most ≤ room → written_of (Next size) ≡ write_at (spell_command kept c es) room 0
-unfolding write_at room_for written_of
+pub all_written : (kept : Remembered) (c : Command) (es : List ℤ) (l o : List ℕ) {m : DelMode} {size most : ℕ} (room : ℕ) → fits kept c.parameters es ≡ true → Poured (spell_command kept c es) 1043 l o 0 size → m ≡ kept.mode → most ≡ most_written m → most ≤ room → answer_of (Ok size) ≡ write_at (spell_command kept c es) room 0
+unfolding write_at room_for answer_of
 all_written kept c es l o {m} {size} {most} room h f em e k =
     let n : 0 + length (spell_command kept c es) ≡ size = omega (arith, f.size) in
     let q : most ≡ most_written kept.mode = e ∙ ap most_written em in
     rw (n, le-leb size room (omega (arith, k, q, bytes-few kept c es (command-tail kept c.parameters es h) f)))
 
-pub stands-written : (w : List ℕ) (l o : List ℕ) (n k r : ℕ) → Poured w k l o 0 r → o ≡ after_write (written_of (Next n)) w l 0
-unfolding after_write written_of
+pub stands-written : (w : List ℕ) (l o : List ℕ) (n k r : ℕ) → Poured w k l o 0 r → o ≡ after_write (answer_of (Ok n)) w l 0
+unfolding after_write answer_of
 stands-written w l o n k r f = f.stand
 
 -- what was poured where there is room for all of it, taken from there
@@ -257,5 +253,17 @@ taken_back w l o k r f h =
 pub front_long : (w l o : List ℕ) (k r : ℕ) → Poured w k l o 0 r → k ≤ length l → length (take r o) ≡ r
 front_long w l o k r f h = length-take-le r o (omega (arith, f.few, ap length f.stand, length-sets l 0 w))
 
-pub answer_of : (w : List ℕ) (room : ℕ) {v : List ℕ} {q : Answer ℕ} → v ≡ w → q ≡ write_at v room 0 → q ≡ write_at w room 0
-answer_of w room e j = rw (← e) j
+pub answer_same : (w : List ℕ) (room : ℕ) {v : List ℕ} {q : Answer ℕ} → v ≡ w → q ≡ write_at v room 0 → q ≡ write_at w room 0
+answer_same w room e j = rw (← e) j
+
+pub ruleset turns = (entering-none, entry_ok, entering-end)
+
+pub ruleset lists = (count-few, list_few, list_ok)
+
+pub ruleset tails = (tail-ok, tail-poured)
+
+pub ruleset commands = (command-inside, command-values, command-tail)
+
+pub ruleset sendings = (taken_back, front_long, answer_same, standing)
+
+pub ruleset writings = (fitting, tested, outside, accepted, none_changed)

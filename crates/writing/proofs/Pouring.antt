@@ -3,10 +3,13 @@ use Prim.Native.Nat.{ℕ, ◌+◌, ◌≤◌}
 use mathlib.Core.Path.{◌≡◌, refl, sym, ◌∙◌, ap}
 use mathlib.Core.Bool.{Bool, true, ◌&&◌}
 use mathlib.Core.List.{List, [], ◌∷◌, ◌++◌, append-nil, append_assoc}
+use mathlib.Core.Logic.{◌⊎◌, inl, inr}
 use native.Mathlib.Omega.{arith}
 use lib.ListN.{length, length-append}
 use lib.Seq.{sets}
 use lib.IntN.{ℤ, nat_abs}
+use mir.Syntax.{w32}
+use mir.Val.{to_z, of_z}
 use Rattle.memory.specs.declared.Point.{Point}
 use Rattle.memory.specs.declared.Remembered.{Remembered}
 use Rattle.memory.specs.Memory.{inside, remember}
@@ -23,10 +26,9 @@ use Rattle.characters.specs.Characters.{is_character, low_eight}
 use Rattle.characters.proofs.Entries.{a_byte}
 use Rattle.parameters.specs.declared.Entry.{Entry}
 use Rattle.parameters.specs.declared.Entry.TheVariants.{AnInteger, ACharacter}
-use Rattle.parameters.specs.declared.Real.{Real}
 use Rattle.parameters.specs.declared.Parameters.{Parameters}
-use Rattle.parameters.specs.declared.Parameters.TheVariants.{OneInteger, TwoIntegers, ThreeIntegers, OnePoint, TwoPoints, AReal, TwoCharacters, AString, AnArray, IntegerThenString, IntegerThenArray}
-use Rattle.parameters.specs.Shapes.{number, scaled, place, values_of}
+use Rattle.parameters.specs.declared.Parameters.TheVariants.{AString, AnArray}
+use Rattle.parameters.specs.Shapes.{Value, number, scaled, place, values_of}
 use Rattle.writable.specs.Writable.{is_entry, is_value, are_values}
 use Rattle.writing.specs.Writing.{spell_entry, spell_values, Poured}
 
@@ -63,16 +65,16 @@ module _ (kept : Remembered) (e : Entry) (v x : ℤ) (ok : is_entry e v ≡ true
       let n : r ≡ length (sent kept (nat_abs v ∷ [])) = er ∙ ap (λ (y : ℕ). length (sent kept (y ∷ []))) q in
       rw g (record { size = n; stand = eo ∙ ap (λ (y : ℕ). sets l at (sent kept (y ∷ []))) q; few = omega (arith, n, one-most kept (nat_abs v)) })
 
-pub one-point_poured : (kept : Remembered) (p : Point) (l : List ℕ) (at : ℕ) {r : ℕ} {o : List ℕ} → inside kept.point ≡ true → inside p ≡ true → r ≡ length (poured (inside kept.point && inside p) (sent kept (spell_point kept.point p))) → o ≡ sets l at (poured (inside kept.point && inside p) (sent kept (spell_point kept.point p))) → Poured (sent kept (spell_point kept.point p)) 6 l o at r
-one-point_poured kept p l at {r} a b er eo =
+pub one_point_poured : (kept : Remembered) (p : Point) (l : List ℕ) (at : ℕ) {r : ℕ} {o : List ℕ} → inside kept.point ≡ true → inside p ≡ true → r ≡ length (poured (inside kept.point && inside p) (sent kept (spell_point kept.point p))) → o ≡ sets l at (poured (inside kept.point && inside p) (sent kept (spell_point kept.point p))) → Poured (sent kept (spell_point kept.point p)) 6 l o at r
+one_point_poured kept p l at {r} a b er eo =
     let w = sent kept (spell_point kept.point p) in
     let t : inside kept.point && inside p ≡ true = rw (a, b) in
     let q : poured (inside kept.point && inside p) w ≡ w = poured-is (inside kept.point && inside p) w t in
     let n : r ≡ length w = er ∙ ap length q in
     record { size = n; stand = eo ∙ ap (λ (y : List ℕ). sets l at y) q; few = omega (arith, n, point-few kept kept.point p b) }
 
-pub inside-after : (kept : Remembered) (p : Point) {k : Remembered} → k ≡ remember kept p → inside p ≡ true → inside k.point ≡ true
-inside-after kept p e h = rw e h
+pub inside_after : (kept : Remembered) (p : Point) {k : Remembered} → k ≡ remember kept p → inside p ≡ true → inside k.point ≡ true
+inside_after kept p e h = rw e h
 
 -- two pieces, as the code pours them; a signed argument comes back as the machine reads it
 module _ (e : Entry) (kept : Remembered) (a b x y : ℤ) (l m o : List ℕ) (at n r : ℕ) where
@@ -90,108 +92,76 @@ two-points_poured kept p q l m o at n r f e g =
 
 -- ---- the values of each kind
 
+-- a signed value as the machine reads it back
+abbrev pub stored : ℤ → ℤ
+stored v = to_z w32 (of_z w32 v)
+
+-- what the values are asked for, of each
 module _ (ps : Parameters) (h : are_values (values_of ps) ≡ true) where
-  pub one-integer_ok : (x : ℤ) {v : ℤ} → ps ≡ OneInteger v → x ≡ v → is_entry AnInteger x ≡ true
-  one-integer_ok x {v} g i = rw i (every-split is_value (number AnInteger v) [] (rw g at h)).0
+  all_of : {vs : List Value} → values_of ps ≡ vs → are_values vs ≡ true
+  all_of g = sym (ap are_values g) ∙ h
 
-  pub integer-then_string_ok : (x : ℤ) {v : ℤ} → ps ≡ IntegerThenString v → x ≡ v → is_entry AnInteger x ≡ true
-  integer-then_string_ok x {v} g i = rw i (every-split is_value (number AnInteger v) [] (rw g at h)).0
+  pub first_entry : {e : Entry} {v : ℤ} {vs : List Value} (x : ℤ) → values_of ps ≡ number e v ∷ vs → x ≡ v → is_entry e x ≡ true
+  first_entry {e} {v} {vs} x g i = ap (is_entry e) i ∙ (every-split is_value (number e v) vs (all_of g)).0
 
-  pub integer-then_array_ok : (x : ℤ) {v : ℤ} → ps ≡ IntegerThenArray v → x ≡ v → is_entry AnInteger x ≡ true
-  integer-then_array_ok x {v} g i = rw i (every-split is_value (number AnInteger v) [] (rw g at h)).0
+  second_value : {u v : Value} {vs : List Value} → values_of ps ≡ u ∷ v ∷ vs → is_value v ≡ true
+  second_value {u} {v} {vs} g = (every-split is_value v vs (every-split is_value u (v ∷ vs) (all_of g)).1).0
 
-  pub two-integers_first : (x : ℤ) {v w : ℤ} → ps ≡ TwoIntegers v w → x ≡ v → is_entry AnInteger x ≡ true
-  two-integers_first x {v} {w} g i = rw i (every-split is_value (number AnInteger v) (number AnInteger w ∷ []) (rw g at h)).0
+  pub second_entry : {u : Value} {e : Entry} {v : ℤ} {vs : List Value} (x : ℤ) → values_of ps ≡ u ∷ number e v ∷ vs → x ≡ v → is_entry e x ≡ true
+  second_entry {u} {e} {v} {vs} x g i = ap (is_entry e) i ∙ second_value {u = u} {v = number e v} {vs = vs} g
 
-  pub two-integers_second : (y : ℤ) {v w : ℤ} → ps ≡ TwoIntegers v w → y ≡ w → is_entry AnInteger y ≡ true
-  two-integers_second y {v} {w} g j =
-      rw j (every-split is_value (number AnInteger w) [] (every-split is_value (number AnInteger v) (number AnInteger w ∷ []) (rw g at h)).1).0
+  pub third_entry : {t u : Value} {e : Entry} {v : ℤ} {vs : List Value} (x : ℤ) → values_of ps ≡ t ∷ u ∷ number e v ∷ vs → x ≡ v → is_entry e x ≡ true
+  third_entry {t} {u} {e} {v} {vs} x g i =
+      let rest = (every-split is_value t (u ∷ number e v ∷ vs) (all_of g)).1 in
+      ap (is_entry e) i ∙ (every-split is_value (number e v) vs (every-split is_value u (number e v ∷ vs) rest).1).0
 
-  pub two-characters_first : (x : ℤ) {v w : ℤ} → ps ≡ TwoCharacters v w → x ≡ v → is_entry ACharacter x ≡ true
-  two-characters_first x {v} {w} g i = rw i (every-split is_value (number ACharacter v) (number ACharacter w ∷ []) (rw g at h)).0
+  both_integers : {m n : ℤ} {vs : List Value} → values_of ps ≡ scaled m n ∷ vs → is_integer m && is_integer n ≡ true
+  both_integers {m} {n} {vs} g = (every-split is_value (scaled m n) vs (all_of g)).0
 
-  pub two-characters_second : (y : ℤ) {v w : ℤ} → ps ≡ TwoCharacters v w → y ≡ w → is_entry ACharacter y ≡ true
-  two-characters_second y {v} {w} g j =
-      rw j (every-split is_value (number ACharacter w) [] (every-split is_value (number ACharacter v) (number ACharacter w ∷ []) (rw g at h)).1).0
+  pub mantissa : {m n : ℤ} {vs : List Value} (x : ℤ) → values_of ps ≡ scaled m n ∷ vs → x ≡ m → is_entry AnInteger x ≡ true
+  mantissa {m} {n} x g i = ap is_integer i ∙ and_left (is_integer m) (is_integer n) (both_integers g)
 
-  real-both : {r : Real} → ps ≡ AReal r → is_integer r.mantissa && is_integer r.exponent ≡ true
-  real-both {r} g = (every-split is_value (scaled r.mantissa r.exponent) [] (rw g at h)).0
+  pub exponent : {m n : ℤ} {vs : List Value} (x : ℤ) → values_of ps ≡ scaled m n ∷ vs → x ≡ n → is_entry AnInteger x ≡ true
+  exponent {m} {n} x g i = ap is_integer i ∙ and_right (is_integer m) (is_integer n) (both_integers g)
 
-  pub real-first : (x : ℤ) {r : Real} → ps ≡ AReal r → x ≡ r.mantissa → is_entry AnInteger x ≡ true
-  real-first x {r} g i = rw i (and_left (is_integer r.mantissa) (is_integer r.exponent) (real-both g))
+  pub first_point : {p : Point} {vs : List Value} → values_of ps ≡ place p ∷ vs → inside p ≡ true
+  first_point {p} {vs} g = (every-split is_value (place p) vs (all_of g)).0
 
-  pub real-second : (y : ℤ) {r : Real} → ps ≡ AReal r → y ≡ r.exponent → is_entry AnInteger y ≡ true
-  real-second y {r} g j = rw j (and_right (is_integer r.mantissa) (is_integer r.exponent) (real-both g))
+  pub second_point : {u : Value} {p : Point} {vs : List Value} → values_of ps ≡ u ∷ place p ∷ vs → inside p ≡ true
+  second_point {u} {p} {vs} g = second_value {u = u} {v = place p} {vs = vs} g
 
-  three-integers_rest : {u v w : ℤ} → ps ≡ ThreeIntegers u v w → are_values (number AnInteger v ∷ number AnInteger w ∷ []) ≡ true
-  three-integers_rest {u} {v} {w} g = (every-split is_value (number AnInteger u) (number AnInteger v ∷ number AnInteger w ∷ []) (rw g at h)).1
-
-  pub three-integers_first : (x : ℤ) {u v w : ℤ} → ps ≡ ThreeIntegers u v w → x ≡ u → is_entry AnInteger x ≡ true
-  three-integers_first x {u} {v} {w} g i = rw i (every-split is_value (number AnInteger u) (number AnInteger v ∷ number AnInteger w ∷ []) (rw g at h)).0
-
-  pub three-integers_second : (y : ℤ) {u v w : ℤ} → ps ≡ ThreeIntegers u v w → y ≡ v → is_entry AnInteger y ≡ true
-  three-integers_second y {u} {v} {w} g j = rw j (every-split is_value (number AnInteger v) (number AnInteger w ∷ []) (three-integers_rest g)).0
-
-  pub three-integers_third : (z : ℤ) {u v w : ℤ} → ps ≡ ThreeIntegers u v w → z ≡ w → is_entry AnInteger z ≡ true
-  three-integers_third z {u} {v} {w} g k =
-      rw k (every-split is_value (number AnInteger w) [] (every-split is_value (number AnInteger v) (number AnInteger w ∷ []) (three-integers_rest g)).1).0
-
-  pub one-point_ok : (p : Point) → ps ≡ OnePoint p → inside p ≡ true
-  one-point_ok p g = (every-split is_value (place p) [] (rw g at h)).0
-
-  pub two-points_first : (p : Point) {q : Point} → ps ≡ TwoPoints p q → inside p ≡ true
-  two-points_first p {q} g = (every-split is_value (place p) (place q ∷ []) (rw g at h)).0
-
-  pub two-points_second : (q : Point) {p : Point} → ps ≡ TwoPoints p q → inside q ≡ true
-  two-points_second q {p} g = (every-split is_value (place q) [] (every-split is_value (place p) (place q ∷ []) (rw g at h)).1).0
-
--- the bytes of the values of each kind
-module _ (kept : Remembered) (ps : Parameters) (l o : List ℕ) (at r : ℕ) where
-  widened : (w : List ℕ) (k : ℕ) → k ≤ 12 → Poured w k l o at r → Poured w 12 l o at r
-  widened w k h f = record { size = f.size; stand = f.stand; few = omega (arith, f.few) }
-
-  pub one-integer_values : (x : ℤ) {v : ℤ} → ps ≡ OneInteger v → x ≡ v → Poured (spell_entry AnInteger kept x) 4 l o at r → Poured (spell_values kept (values_of ps)) 12 l o at r
+-- their bytes; a signed value comes back as the machine reads it
+module _ (kept : Remembered) where
+  pub entry_spelled : (e : Entry) (x : ℤ) {v : ℤ} → x ≡ v → spell_values kept (number e v ∷ []) ≡ spell_entry e kept x
   unfolding spell_values
-  one-integer_values x {v} g i f = rw (g, append-nil (spell_entry AnInteger kept v), ← i) (widened _ 4 (omega arith) f)
+  entry_spelled e x {v} i = rw i (append-nil (spell_entry e kept v))
 
-  pub integer-then_string_values : (x : ℤ) {v : ℤ} → ps ≡ IntegerThenString v → x ≡ v → Poured (spell_entry AnInteger kept x) 4 l o at r → Poured (spell_values kept (values_of ps)) 12 l o at r
+  pub entries_spelled : (e : Entry) (x y : ℤ) {v w : ℤ} → x ≡ v → y ≡ w → spell_values kept (number e v ∷ number e w ∷ []) ≡ spell_entry e kept x ++ spell_entry e kept y
   unfolding spell_values
-  integer-then_string_values x {v} g i f = rw (g, append-nil (spell_entry AnInteger kept v), ← i) (widened _ 4 (omega arith) f)
+  entries_spelled e x y {v} {w} i j = rw (append-nil (spell_entry e kept w), ← i, ← j)
 
-  pub integer-then_array_values : (x : ℤ) {v : ℤ} → ps ≡ IntegerThenArray v → x ≡ v → Poured (spell_entry AnInteger kept x) 4 l o at r → Poured (spell_values kept (values_of ps)) 12 l o at r
+  pub three_spelled : (x y z : ℤ) {u v w : ℤ} → x ≡ u → y ≡ v → z ≡ w → spell_values kept (number AnInteger u ∷ number AnInteger v ∷ number AnInteger w ∷ []) ≡ spell_entry AnInteger kept x ++ spell_entry AnInteger kept y ++ spell_entry AnInteger kept z
   unfolding spell_values
-  integer-then_array_values x {v} g i f = rw (g, append-nil (spell_entry AnInteger kept v), ← i) (widened _ 4 (omega arith) f)
+  three_spelled x y z {u} {v} {w} i j k =
+      rw (append-nil (spell_entry AnInteger kept w), ← append_assoc (spell_entry AnInteger kept u) (spell_entry AnInteger kept v) (spell_entry AnInteger kept w), ← i, ← j, ← k)
 
-  pub two-integers_values : (x y : ℤ) {v w : ℤ} → ps ≡ TwoIntegers v w → x ≡ v → y ≡ w → Poured (spell_entry AnInteger kept x ++ spell_entry AnInteger kept y) 8 l o at r → Poured (spell_values kept (values_of ps)) 12 l o at r
-  unfolding spell_values
-  two-integers_values x y {v} {w} g i j f = rw (g, append-nil (spell_entry AnInteger kept w), ← i, ← j) (widened _ 8 (omega arith) f)
-
-  pub two-characters_values : (x y : ℤ) {v w : ℤ} → ps ≡ TwoCharacters v w → x ≡ v → y ≡ w → Poured (spell_entry ACharacter kept x ++ spell_entry ACharacter kept y) 8 l o at r → Poured (spell_values kept (values_of ps)) 12 l o at r
-  unfolding spell_values
-  two-characters_values x y {v} {w} g i j f = rw (g, append-nil (spell_entry ACharacter kept w), ← i, ← j) (widened _ 8 (omega arith) f)
-
-  pub real-values : (x y : ℤ) {v : Real} → ps ≡ AReal v → x ≡ v.mantissa → y ≡ v.exponent → Poured (spell_entry AnInteger kept x ++ spell_entry AnInteger kept y) 8 l o at r → Poured (spell_values kept (values_of ps)) 12 l o at r
+  pub real_spelled : (x y : ℤ) {m n : ℤ} → x ≡ m → y ≡ n → spell_values kept (scaled m n ∷ []) ≡ spell_entry AnInteger kept x ++ spell_entry AnInteger kept y
   unfolding spell_values spell_entry
-  real-values x y {v} g i j f =
-      rw (g, append-nil (sent kept (spell v.mantissa) ++ sent kept (spell v.exponent)), ← i, ← j) (widened _ 8 (omega arith) f)
+  real_spelled x y {m} {n} i j = rw (append-nil (sent kept (spell m) ++ sent kept (spell n)), ← i, ← j)
 
-  pub three-integers_values : (x y z : ℤ) {u v w : ℤ} → ps ≡ ThreeIntegers u v w → x ≡ u → y ≡ v → z ≡ w → Poured (spell_entry AnInteger kept x ++ spell_entry AnInteger kept y ++ spell_entry AnInteger kept z) 12 l o at r → Poured (spell_values kept (values_of ps)) 12 l o at r
+  pub point_spelled : (p : Point) → spell_values kept (place p ∷ []) ≡ sent kept (spell_point kept.point p)
   unfolding spell_values
-  three-integers_values x y z {u} {v} {w} g i j k f =
-      rw (g, append-nil (spell_entry AnInteger kept w), ← append_assoc (spell_entry AnInteger kept u) (spell_entry AnInteger kept v) (spell_entry AnInteger kept w), ← i, ← j, ← k) f
+  point_spelled p = append-nil (sent kept (spell_point kept.point p))
 
-  pub one-point_values : {p : Point} → ps ≡ OnePoint p → Poured (sent kept (spell_point kept.point p)) 6 l o at r → Poured (spell_values kept (values_of ps)) 12 l o at r
+  pub points_spelled : (p q : Point) → spell_values kept (place p ∷ place q ∷ []) ≡ sent kept (spell_point kept.point p) ++ sent (remember kept p) (spell_point p q)
   unfolding spell_values
-  one-point_values {p} g f = rw (g, append-nil (sent kept (spell_point kept.point p))) (widened _ 6 (omega arith) f)
+  points_spelled p q = rw (append-nil (sent (remember kept p) (spell_point p q)))
 
-  pub two-points_values : {p q : Point} → ps ≡ TwoPoints p q → Poured (sent kept (spell_point kept.point p) ++ sent (remember kept p) (spell_point p q)) 12 l o at r → Poured (spell_values kept (values_of ps)) 12 l o at r
-  unfolding spell_values
-  two-points_values {p} {q} g f = rw (g, append-nil (sent (remember kept p) (spell_point p q))) f
+pub values_poured : (kept : Remembered) (ps : Parameters) {vs : List Value} {w l o : List ℕ} {k at r : ℕ} → values_of ps ≡ vs → spell_values kept vs ≡ w → k ≤ 12 → Poured w k l o at r → Poured (spell_values kept (values_of ps)) 12 l o at r
+values_poured kept ps g e h f = rw (g, e) (record { size = f.size; stand = f.stand; few = omega (arith, h, f.few) })
 
-pub string_none : (kept : Remembered) (ps : Parameters) (l : List ℕ) (at : ℕ) → ps ≡ AString → Poured (spell_values kept (values_of ps)) 12 l l at 0
+-- a string and an array have no values of their own
+pub none_poured : (kept : Remembered) (ps : Parameters) (l : List ℕ) (at : ℕ) → ps ≡ AString ⊎ ps ≡ AnArray → Poured (spell_values kept (values_of ps)) 12 l l at 0
 unfolding spell_values
-string_none kept ps l at g = rw g (record { size = refl; stand = refl; few = omega arith })
-
-pub array_none : (kept : Remembered) (ps : Parameters) (l : List ℕ) (at : ℕ) → ps ≡ AnArray → Poured (spell_values kept (values_of ps)) 12 l l at 0
-unfolding spell_values
-array_none kept ps l at g = rw g (record { size = refl; stand = refl; few = omega arith })
+none_poured kept ps l at (inl g) = rw g (record { size = refl; stand = refl; few = omega arith })
+none_poured kept ps l at (inr g) = rw g (record { size = refl; stand = refl; few = omega arith })

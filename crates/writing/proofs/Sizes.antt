@@ -162,14 +162,6 @@ command-short kept c es e ok =
     let m = tail-short (after_values kept vs) (values-mode kept vs ∙ e) (tail_of c.parameters) es ok in
     omega (arith, n, m, few-values c.parameters, length-append w t)
 
-pub most-data : {m : DelMode} → m ≡ Data → 792 ≡ most_written m
-unfolding most_written
-most-data e = rw e
-
-pub most-filler : {m : DelMode} → m ≡ Filler → 1043 ≡ most_written m
-unfolding most_written
-most-filler e = rw e
-
 -- what was poured has no more bytes than the mode lets a command have
 pub bytes-few : (kept : Remembered) (c : Command) (es : List ℤ) {l o : List ℕ} {r : ℕ} → is_tail (tail_of c.parameters) es ≡ true → Poured (spell_command kept c es) 1043 l o 0 r → r ≤ most_written kept.mode
 unfolding most_written

@@ -4,7 +4,8 @@
 ghost use Rattle.std.specs.Prelude.{◌≡◌, true, [], ◌∷◌, ◌++◌, ◌≤◌, ◌+◌, length};
 ghost use Rattle.std.proofs.lemmas.List.Edits.{sets};
 ghost use Rattle.memory.specs.Memory.{inside, remember};
-ghost use Rattle.wire.specs.Sending.{sent, written_of, write_at, after_write};
+ghost use Rattle.refusals.specs.Answers.{answer_of};
+ghost use Rattle.wire.specs.Sending.{sent, write_at, after_write};
 ghost use Rattle.points.specs.Writing.{spell_point};
 ghost use Rattle.parameters.specs.Shapes.{list_of, values_of, tail_of};
 ghost use Rattle.parameters.specs.Behind.{after_values};
@@ -14,9 +15,8 @@ ghost use Rattle.writing.specs.Writing.{spell_entry, spell_entries, spell_values
 
 use commands::Command;
 use memory::{DelMode, Point, Remembered};
-use parameters::{Entry, LastPoint, Parameters, Tail};
+use parameters::{Entry, Parameters};
 use refusals::Refusal;
-use wire::Written;
 
 // No command has more bytes: ESC and two letters, fixed parameters of at most 12, a count of at most 4, and 256 entries of at most 4 each.
 const MOST_BYTES: usize = 1043;
@@ -27,10 +27,7 @@ fn pour_entry(kept: Remembered, entry: Entry, v: i32, out: &mut [u8], at: usize)
 {
     match entry {
         Entry::AnInteger => spelling::pour_integer(kept, v, out, at),
-        Entry::ACharacter => {
-            let b = characters::byte_of(v);
-            wire::pour_one(kept, b, out, at)
-        }
+        Entry::ACharacter => wire::pour_one(kept, characters::byte_of(v), out, at),
     }
 }
 
@@ -46,9 +43,7 @@ fn pour_two_entries(
     ensures { Poured (spell_entry entry kept a ++ spell_entry entry kept b) 8 out.old out.new at result }
 {
     let n = pour_entry(kept, entry, a, out, at);
-    let next = at + n;
-    let m = pour_entry(kept, entry, b, out, next);
-    n + m
+    n + pour_entry(kept, entry, b, out, at + n)
 }
 
 fn pour_three_integers(kept: Remembered, a: i32, b: i32, d: i32, out: &mut [u8], at: usize) -> usize
@@ -56,9 +51,7 @@ fn pour_three_integers(kept: Remembered, a: i32, b: i32, d: i32, out: &mut [u8],
     ensures { Poured (spell_entry Entry.AnInteger kept a ++ spell_entry Entry.AnInteger kept b ++ spell_entry Entry.AnInteger kept d) 12 out.old out.new at result }
 {
     let n = pour_two_entries(kept, Entry::AnInteger, a, b, out, at);
-    let next = at + n;
-    let m = pour_entry(kept, Entry::AnInteger, d, out, next);
-    n + m
+    n + pour_entry(kept, Entry::AnInteger, d, out, at + n)
 }
 
 fn pour_one_point(kept: Remembered, p: Point, out: &mut [u8], at: usize) -> usize
@@ -68,14 +61,13 @@ fn pour_one_point(kept: Remembered, p: Point, out: &mut [u8], at: usize) -> usiz
     points::pour_point(kept, p, out, at)
 }
 
+#[tactic(auto, using(crate::proofs::Pouring::inside_after))]
 fn pour_two_points(kept: Remembered, p: Point, q: Point, out: &mut [u8], at: usize) -> usize
     requires { ((inside kept.point ≡ true) × ((inside p ≡ true) × (inside q ≡ true))) × (at ≤ 48) }
     ensures { Poured (sent kept (spell_point kept.point p) ++ sent (remember kept p) (spell_point p q)) 12 out.old out.new at result }
 {
     let n = pour_one_point(kept, p, out, at);
-    let next = at + n;
-    let m = pour_one_point(memory::with_point(kept, p), q, out, next);
-    n + m
+    n + pour_one_point(memory::with_point(kept, p), q, out, at + n)
 }
 
 fn pour_values(kept: Remembered, parameters: Parameters, out: &mut [u8], at: usize) -> usize
@@ -89,30 +81,30 @@ fn pour_values(kept: Remembered, parameters: Parameters, out: &mut [u8], at: usi
         Parameters::OnePoint(p) => pour_one_point(kept, p, out, at),
         Parameters::TwoPoints(p, q) => pour_two_points(kept, p, q, out, at),
         Parameters::AReal(real) => {
-            let a = real.mantissa;
-            let b = real.exponent;
-            pour_two_entries(kept, Entry::AnInteger, a, b, out, at)
+            pour_two_entries(
+                kept,
+                Entry::AnInteger,
+                real.mantissa,
+                real.exponent,
+                out,
+                at,
+            )
         }
         Parameters::TwoCharacters(a, b) => pour_two_entries(kept, Entry::ACharacter, a, b, out, at),
-        Parameters::AString => 0,
-        Parameters::AnArray => 0,
+        Parameters::AString | Parameters::AnArray => 0,
         Parameters::IntegerThenString(a) => pour_entry(kept, Entry::AnInteger, a, out, at),
         Parameters::IntegerThenArray(a) => pour_entry(kept, Entry::AnInteger, a, out, at),
     }
 }
 
+#[tactic(auto, using(crate::proofs::Lists::turns))]
 fn pour_entries(kept: Remembered, entry: Entry, list: &[i32], out: &mut [u8], at: usize) -> usize
     requires { ((are_entries entry list.now ≡ true) × (length list.now ≤ 256)) × (at ≤ 64) }
     ensures { Poured (spell_entries entry kept list.now) 1024 out.old out.new at result }
 {
-    let mut i = 0;
     let mut n = 0;
-    while i < list.len() {
-        let next = at + n;
-        let v = list[i];
-        let m = pour_entry(kept, entry, v, out, next);
-        n = n + m;
-        i = i + 1;
+    for v in list {
+        n += pour_entry(kept, entry, *v, out, at + n);
     }
     n
 }
@@ -139,16 +131,16 @@ fn pour_all(kept: Remembered, entry: Entry, list: &[i32], out: &mut [u8], at: us
     }
 }
 
+#[tactic(auto, using(crate::proofs::Lists::lists))]
 fn pour_list(kept: Remembered, entry: Entry, list: &[i32], out: &mut [u8], at: usize) -> usize
     requires { (is_tail (list_of entry) list.now ≡ true) × (at ≤ 58) }
     ensures { Poured (spell_tail kept (list_of entry) list.now) 1028 out.old out.new at result }
 {
     let n = spelling::pour_count(kept, list.len(), out, at);
-    let next = at + n;
-    let m = pour_all(kept, entry, list, out, next);
-    n + m
+    n + pour_all(kept, entry, list, out, at + n)
 }
 
+#[tactic(auto, using(crate::proofs::Lists::tails))]
 fn pour_tail(
     kept: Remembered,
     parameters: Parameters,
@@ -160,22 +152,24 @@ fn pour_tail(
     ensures { Poured (spell_tail kept (tail_of parameters) list.now) 1028 out.old out.new at result }
 {
     match parameters::tail_of(parameters) {
-        Tail::NoList => 0,
-        Tail::ListOf(entry) => pour_list(kept, entry, list, out, at),
+        Some(entry) => pour_list(kept, entry, list, out, at),
+        None => 0,
     }
 }
 
 // What is remembered behind the values of a command.
+#[tactic(auto, using(crate::proofs::Lists::kept_before))]
 fn values_left(kept: Remembered, parameters: Parameters) -> Remembered
     ensures { result ≡ after_values kept (values_of parameters) }
 {
     match parameters::last_point(parameters) {
-        LastPoint::NoPoint => kept,
-        LastPoint::Last(p) => memory::with_point(kept, p),
+        Some(p) => memory::with_point(kept, p),
+        None => kept,
     }
 }
 
 // What is remembered behind a command.
+#[tactic(auto, unfolding(commands::specs::Behind::after_command))]
 pub fn remembered_after(kept: Remembered, command: Command) -> Remembered
     ensures { result ≡ after_command kept command.first command.second (values_of command.parameters) }
 {
@@ -185,6 +179,7 @@ pub fn remembered_after(kept: Remembered, command: Command) -> Remembered
 }
 
 // ESC and two letters, each as it stands: no letter is ever sent as a pair.
+#[tactic(auto, using(crate::proofs::Lists::head_stored))]
 fn store_head(first: u8, second: u8, out: &mut [u8])
     ensures { out.new ≡ sets out.old 0 (27 ∷ first ∷ second ∷ []) }
 {
@@ -194,20 +189,20 @@ fn store_head(first: u8, second: u8, out: &mut [u8])
 }
 
 // All bytes of a command that may be written.
+#[tactic(auto, using(crate::proofs::Lists::commands))]
 fn pour_command(kept: Remembered, command: Command, list: &[i32], out: &mut [u8]) -> usize
     requires { fits kept command.parameters list.now ≡ true }
     ensures { Poured (spell_command kept command list.now) 1043 out.old out.new 0 result }
 {
     let parameters = command.parameters;
     store_head(command.first, command.second, out);
-    let n = pour_values(kept, parameters, out, 3);
-    let next = 3 + n;
+    let next = 3 + pour_values(kept, parameters, out, 3);
     // the values leave the mode, and a tail is spelled by the mode alone
-    let m = pour_tail(kept, parameters, list, out, next);
-    next + m
+    next + pour_tail(kept, parameters, list, out, next)
 }
 
 // What a command may need, by the mode: less where a 127 is data, so that there a shorter output is poured into at once.
+#[tactic(auto, unfolding(crate::specs::Writing::most_written))]
 fn most_bytes(mode: DelMode) -> usize
     ensures { result ≡ most_written mode }
 {
@@ -218,38 +213,49 @@ fn most_bytes(mode: DelMode) -> usize
 }
 
 // A command that may be written, from the front of `out` on, or 7.
-fn send(kept: Remembered, command: Command, list: &[i32], out: &mut [u8]) -> Written
+#[tactic(auto, using(crate::proofs::Lists::sendings))]
+fn send(kept: Remembered, command: Command, list: &[i32], out: &mut [u8]) -> Result<usize, Refusal>
     requires { fits kept command.parameters list.now ≡ true }
-    ensures { (written_of result ≡ write_at (spell_command kept command list.now) (length out.old) 0) × (out.new ≡ after_write (written_of result) (spell_command kept command list.now) out.old 0) }
+    ensures { (answer_of result ≡ write_at (spell_command kept command list.now) (length out.old) 0) × (out.new ≡ after_write (answer_of result) (spell_command kept command list.now) out.old 0) }
 {
-    let mode = kept.mode;
-    if out.len() >= most_bytes(mode) {
-        let size = pour_command(kept, command, list, out);
-        return Written::Next(size);
+    if out.len() >= most_bytes(kept.mode) {
+        return Ok(pour_command(kept, command, list, out));
     }
-    // where there may be too little room, the bytes wait apart until it is known how many they are
+    // where there may be too little room, the bytes wait apart until it is known how many they are; an array with its size beside it, since memory is
+    // fixed
     let mut bytes = [0u8; MOST_BYTES];
     let size = pour_command(kept, command, list, &mut bytes);
     wire::write_bytes(&bytes[..size], out, 0)
 }
 
 // The command's shortest spelling from the front of `out` on: 8 for what may not be written, then 7.
-pub fn write_command(kept: Remembered, command: Command, list: &[i32], out: &mut [u8]) -> Written
-    ensures { (written_of result ≡ write_command kept command list.now (length out.old)) × (out.new ≡ after_write (written_of result) (spell_command kept command list.now) out.old 0) }
+#[tactic(auto, using(crate::proofs::Lists::writings))]
+pub fn write_command(
+    kept: Remembered,
+    command: Command,
+    list: &[i32],
+    out: &mut [u8],
+) -> Result<usize, Refusal>
+    ensures { (answer_of result ≡ write_command kept command list.now (length out.old)) × (out.new ≡ after_write (answer_of result) (spell_command kept command list.now) out.old 0) }
 {
-    if writable::is_writable(kept, command, list) {
-        return send(kept, command, list, out);
+    if !writable::is_writable(kept, command, list) {
+        return Err(Refusal::NotValid);
     }
-    Written::Refused(Refusal::NotValid)
+    send(kept, command, list, out)
 }
 
 // The same where the letters were found in the table and gave the kind of the parameters: they are sent as they stand.
-pub fn write_fitting(kept: Remembered, command: Command, list: &[i32], out: &mut [u8]) -> Written
-    ensures { (written_of result ≡ write_fitting kept command list.now (length out.old)) × (out.new ≡ after_write (written_of result) (spell_command kept command list.now) out.old 0) }
+#[tactic(auto, using(crate::proofs::Lists::writings))]
+pub fn write_fitting(
+    kept: Remembered,
+    command: Command,
+    list: &[i32],
+    out: &mut [u8],
+) -> Result<usize, Refusal>
+    ensures { (answer_of result ≡ write_fitting kept command list.now (length out.old)) × (out.new ≡ after_write (answer_of result) (spell_command kept command list.now) out.old 0) }
 {
-    let parameters = command.parameters;
-    if writable::parameters_fit(kept, parameters, list) {
-        return send(kept, command, list, out);
+    if !writable::parameters_fit(kept, command.parameters, list) {
+        return Err(Refusal::NotValid);
     }
-    Written::Refused(Refusal::NotValid)
+    send(kept, command, list, out)
 }

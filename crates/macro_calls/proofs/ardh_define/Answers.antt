@@ -1,10 +1,18 @@
-use Rattle.refusals.proofs.Shut.{opened, closed}
-use Rattle.macro_calls.proofs.Answers.{define-done, define-refused, store-so}
-use borrow.Author.Rules.{rules}
+use mathlib.Core.Path.{◌∙◌}
+use Rattle.refusals.specs.Answers.{refusal_of}
+use Rattle.macro_calls.proofs.Answers.{define-told, store-so}
 use Rattle.macro_calls.proofs.ardh_define.Goals as goal
 
-pub returns-in-Defined : goal.returns-in-Defined
-returns-in-Defined c = record { value = opened (search (closed, rules, define-done)); store_after = opened (search (closed, rules, store-so)) }
+pub returns-in-Ok : goal.returns-in-Ok
+unfolding refusal_of
+returns-in-Ok c = record {
+  value = define-told c.args.number c.ranges.number c.args.store.now c.args.contents.now c.in-Ok.ensures.0;
+  store_after = store-so c.args.number c.ranges.number c.args.store.now c.args.contents.now c.in-Ok.ensures.1;
+}
 
-pub returns-in-Refused : goal.returns-in-Refused
-returns-in-Refused c = record { value = opened (search (closed, rules, define-refused)); store_after = opened (search (closed, rules, store-so)) }
+pub returns-in-Err : goal.returns-in-Err
+unfolding refusal_of
+returns-in-Err c = record {
+  value = c.number.ensures ∙ define-told c.args.number c.ranges.number c.args.store.now c.args.contents.now c.in-Err.ensures.0;
+  store_after = store-so c.args.number c.ranges.number c.args.store.now c.args.contents.now c.in-Err.ensures.1;
+}

@@ -1,13 +1,31 @@
-use Rattle.refusals.proofs.Shut.{opened, closed}
-use Rattle.macro_calls.proofs.Answers.{volatile_number, volatile_fields, saved_number, saved_fields, unplaced-number, unplaced-fields}
-use borrow.Author.Rules.{rules}
+use mathlib.Core.Path.{◌∙◌}
+use Rattle.macros.specs.Store.{body_place_of}
+use Rattle.macro_calls.specs.Slots.{place_fields}
+use Rattle.macro_calls.proofs.Answers.{place_number, place_told}
 use Rattle.macro_calls.proofs.ardh_look_up.Goals as goal
 
-pub returns-in-InVolatile : goal.returns-in-InVolatile
-returns-in-InVolatile c = record { value = opened (search (closed, rules, volatile_number)); place_after = opened (search (closed, rules, volatile_fields)) }
+pub returns-in-Ok-InVolatile : goal.returns-in-Ok-InVolatile
+unfolding body_place_of place_fields
+returns-in-Ok-InVolatile c =
+    let told = rw c.in-Ok-InVolatile.field-0-is at c.in-Ok-InVolatile.ensures in
+    record {
+      value = place_number c.args.number c.ranges.number c.args.volatile.now c.args.saved.now told;
+      place_after = place_told c.args.number c.ranges.number c.args.volatile.now c.args.saved.now told;
+    }
 
-pub returns-in-InSaved : goal.returns-in-InSaved
-returns-in-InSaved c = record { value = opened (search (closed, rules, saved_number)); place_after = opened (search (closed, rules, saved_fields)) }
+pub returns-in-Ok-InSaved : goal.returns-in-Ok-InSaved
+unfolding body_place_of place_fields
+returns-in-Ok-InSaved c =
+    let told = rw c.in-Ok-InSaved.field-0-is at c.in-Ok-InSaved.ensures in
+    record {
+      value = place_number c.args.number c.ranges.number c.args.volatile.now c.args.saved.now told;
+      place_after = place_told c.args.number c.ranges.number c.args.volatile.now c.args.saved.now told;
+    }
 
-pub returns-in-Refused : goal.returns-in-Refused
-returns-in-Refused c = record { value = opened (search (closed, rules, unplaced-number)); place_after = opened (search (closed, rules, unplaced-fields)) }
+pub returns-in-Err : goal.returns-in-Err
+unfolding body_place_of place_fields
+returns-in-Err c =
+    record {
+      value = c.number.ensures ∙ place_number c.args.number c.ranges.number c.args.volatile.now c.args.saved.now c.in-Err.ensures;
+      place_after = place_told c.args.number c.ranges.number c.args.volatile.now c.args.saved.now c.in-Err.ensures;
+    }
