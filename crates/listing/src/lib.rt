@@ -4,7 +4,7 @@
 
 ghost use Rattle.std.specs.Prelude.{◌≡◌, length};
 ghost use Rattle.refusals.specs.Answers.{answer_of};
-ghost use Rattle.wire.specs.Sending.{write_at, after_write};
+ghost use Rattle.wire.specs.Sending.{write_at, after_write, Wrote};
 ghost use Rattle.stream.specs.Items.{item_of, next_start, next_kept};
 ghost use Rattle.lines.specs.Pouring.{Put};
 ghost use Rattle.listing.specs.Listing.{lines_of, listing_with, listing_of};
@@ -68,7 +68,7 @@ fn put_listing(s: &[u8], more: bool, out: &mut [u8]) -> usize
 }
 
 fn write_listing(s: &[u8], more: bool, out: &mut [u8]) -> Result<usize, Refusal>
-    ensures { (answer_of result ≡ write_at (listing_with more s.now) (length out.old) 0) × (out.new ≡ after_write (answer_of result) (listing_with more s.now) out.old 0) }
+    ensures { Wrote (listing_with more s.now) (write_at (listing_with more s.now) (length out.old) 0) out.old 0 result out.new }
 {
     let size = put_listing(s, more, &mut out[..0]);
     if size > out.len() {
@@ -79,7 +79,7 @@ fn write_listing(s: &[u8], more: bool, out: &mut [u8]) -> Result<usize, Refusal>
 
 // The listing of `input`, of which the first 4,096 bytes are read, or 7.
 pub fn listing(input: &[u8], out: &mut [u8]) -> Result<usize, Refusal>
-    ensures { (answer_of result ≡ write_at (listing_of input.now) (length out.old) 0) × (out.new ≡ after_write (answer_of result) (listing_of input.now) out.old 0) }
+    ensures { Wrote (listing_of input.now) (write_at (listing_of input.now) (length out.old) 0) out.old 0 result out.new }
 {
     if input.len() > MOST_BYTES {
         return write_listing(&input[..MOST_BYTES], true, out);

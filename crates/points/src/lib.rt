@@ -5,7 +5,7 @@ ghost use Rattle.std.specs.Prelude.{◌≡◌, ◌&&◌, ◌<◌, ◌≤◌, ◌
 ghost use Rattle.std.proofs.lemmas.List.Edits.{sets};
 ghost use Rattle.memory.specs.Memory.{inside};
 ghost use Rattle.refusals.specs.Answers.{answer_at, answer_of};
-ghost use Rattle.wire.specs.Sending.{sent, after_write, poured};
+ghost use Rattle.wire.specs.Sending.{sent, after_write, poured, Pours, Wrote};
 ghost use Rattle.points.specs.Layout.{Inside, bytes_of, coordinates};
 ghost use Rattle.points.specs.Reading.{lo_x, last_at, after_lo_y, after_upper, after_hi_y, point_from, point_at};
 ghost use Rattle.points.specs.Writing.{part, omits_lo_y, upper_bytes, spell_bytes, spell_point, write_point};
@@ -249,7 +249,7 @@ fn pour_upper(
 // What is sent of a point's bytes `b`, where those of the last point were `a`.
 #[tactic(auto, using(crate::proofs::Spelling::parts_size, crate::proofs::Spelling::parts_stand))]
 fn pour_bytes(kept: Remembered, a: PointBytes, b: PointBytes, out: &mut [u8], at: usize) -> usize
-    ensures { (result ≡ length (sent kept (spell_bytes a b))) × (out.new ≡ sets out.old at (sent kept (spell_bytes a b))) }
+    ensures { Pours (sent kept (spell_bytes a b)) out.old at result out.new }
 {
     let upper = pour_upper(kept, a, b, omits_lo_y(a, b), out, at);
     let most = pour_part(kept, upper, a.hix == b.hix, b.hix, out, at);
@@ -265,7 +265,7 @@ fn are_inside(p: Point, q: Point) -> bool
 // The bytes of a point as far as there is room, and how many they are; of a point outside 0..4095, or from one, none.
 #[tactic(auto, using(crate::proofs::Spelling::pourings))]
 pub fn pour_point(kept: Remembered, point: Point, out: &mut [u8], at: usize) -> usize
-    ensures { (result ≡ length (poured (inside kept.point && inside point) (sent kept (spell_point kept.point point)))) × (out.new ≡ sets out.old at (poured (inside kept.point && inside point) (sent kept (spell_point kept.point point)))) }
+    ensures { Pours (poured (inside kept.point && inside point) (sent kept (spell_point kept.point point))) out.old at result out.new }
 {
     if !are_inside(kept.point, point) {
         return 0;
@@ -281,7 +281,7 @@ pub fn write_point(
     out: &mut [u8],
     at: usize,
 ) -> Result<usize, Refusal>
-    ensures { (answer_of result ≡ write_point kept point (length out.old) at) × (out.new ≡ after_write (answer_of result) (sent kept (spell_point kept.point point)) out.old at) }
+    ensures { Wrote (sent kept (spell_point kept.point point)) (write_point kept point (length out.old) at) out.old at result out.new }
 {
     if !are_inside(kept.point, point) {
         return Err(Refusal::NotValid);

@@ -5,7 +5,7 @@
 ghost use Rattle.std.specs.Prelude.{◌≡◌, ◌≤◌, ◌+◌, true, length};
 ghost use Rattle.std.proofs.lemmas.List.Edits.{sets};
 ghost use Rattle.refusals.specs.Answers.{answer_at, answer_of};
-ghost use Rattle.wire.specs.Sending.{write_at, after_write};
+ghost use Rattle.wire.specs.Sending.{write_at, after_write, Wrote};
 ghost use Rattle.characters.specs.Characters.{are_characters};
 ghost use Rattle.reports.specs.Reading.{byte_within, report_value, report_from, report_at, characters_end, string_at, after_string, entries_at};
 ghost use Rattle.reports.specs.Writing.{spell_report_of, spell_report, write_report, spell_string, write_string};
@@ -128,7 +128,7 @@ fn spell(mag: u32, negative: bool) -> [u8; 3]
 
 // 8 for a value outside -65535..65535, then 7.
 pub fn write_integer(v: i32, out: &mut [u8], at: usize) -> Result<usize, Refusal>
-    ensures { (answer_of result ≡ write_report v (length out.old) at) × (out.new ≡ after_write (answer_of result) (spell_report v) out.old at) }
+    ensures { Wrote (spell_report v) (write_report v (length out.old) at) out.old at result out.new }
 {
     let mag = signs::magnitude(v);
     if mag > 65535 {
@@ -142,7 +142,7 @@ pub fn write_integer(v: i32, out: &mut [u8], at: usize) -> Result<usize, Refusal
 #[tactic(auto, using(crate::proofs::Writings::sendings))]
 fn send_string(list: &[i32], out: &mut [u8], at: usize) -> Result<usize, Refusal>
     requires { (are_characters list.now ≡ true) × (length list.now ≤ 256) }
-    ensures { (answer_of result ≡ write_at (spell_string list.now) (length out.old) at) × (out.new ≡ after_write (answer_of result) (spell_string list.now) out.old at) }
+    ensures { Wrote (spell_string list.now) (write_at (spell_string list.now) (length out.old) at) out.old at result out.new }
 {
     let next = wire::room_for(3 + list.len(), out.len(), at)?;
     let length = spell(list.len() as u32, false);
@@ -154,7 +154,7 @@ fn send_string(list: &[i32], out: &mut [u8], at: usize) -> Result<usize, Refusal
 // 8 for more than 256 entries or one that is no character, then 7.
 #[tactic(auto, using(crate::proofs::Writings::strings))]
 pub fn write_string(list: &[i32], out: &mut [u8], at: usize) -> Result<usize, Refusal>
-    ensures { (answer_of result ≡ write_string list.now (length out.old) at) × (out.new ≡ after_write (answer_of result) (spell_string list.now) out.old at) }
+    ensures { Wrote (spell_string list.now) (write_string list.now (length out.old) at) out.old at result out.new }
 {
     if list.len() > MOST_CHARACTERS {
         return Err(Refusal::NotValid);

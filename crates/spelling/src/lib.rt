@@ -6,7 +6,7 @@ ghost use Rattle.std.proofs.lemmas.List.Edits.{sets};
 ghost use Rattle.refusals.specs.Answers.{answer_of};
 ghost use Rattle.signs.specs.Signs.{is_integer};
 ghost use Rattle.ranges.specs.Ranges.{most_entries};
-ghost use Rattle.wire.specs.Sending.{sent, after_write, poured};
+ghost use Rattle.wire.specs.Sending.{sent, after_write, poured, Pours, Wrote};
 ghost use Rattle.numbers.specs.Integers.{low_of, spell_of, spell, write_integer};
 ghost use Rattle.numbers.specs.Counts.{write_count};
 
@@ -27,7 +27,7 @@ pub fn low_of(mag: u32, negative: bool) -> u8
 // The bytes of an integer, as far as there is room. Each byte goes to its place by itself: how many there are is asked once.
 fn pour_magnitude(kept: Remembered, mag: u32, negative: bool, out: &mut [u8], at: usize) -> usize
     requires { mag ≤ 32768 }
-    ensures { (result ≡ length (sent kept (spell_of mag negative))) × (out.new ≡ sets out.old at (sent kept (spell_of mag negative))) }
+    ensures { Pours (sent kept (spell_of mag negative)) out.old at result out.new }
 {
     let low = low_of(mag, negative);
     let highs = mag / 16;
@@ -46,7 +46,7 @@ fn pour_magnitude(kept: Remembered, mag: u32, negative: bool, out: &mut [u8], at
 #[tactic(auto, using(crate::proofs::Pouring::layings))]
 fn lay_magnitude(mag: u32, negative: bool, out: &mut [u8], at: usize) -> usize
     requires { mag ≤ 32768 }
-    ensures { (result ≡ length (spell_of mag negative)) × (out.new ≡ sets out.old at (spell_of mag negative)) }
+    ensures { Pours (spell_of mag negative) out.old at result out.new }
 {
     let low = low_of(mag, negative);
     if mag < 16 {
@@ -70,7 +70,7 @@ fn lay_magnitude(mag: u32, negative: bool, out: &mut [u8], at: usize) -> usize
 // The bytes of an integer as far as there is room, and how many they are; of a value outside its range none.
 #[tactic(auto, using(crate::proofs::Writing::poured_integers))]
 pub fn pour_integer(kept: Remembered, v: i32, out: &mut [u8], at: usize) -> usize
-    ensures { (result ≡ length (poured (is_integer v) (sent kept (spell v)))) × (out.new ≡ sets out.old at (poured (is_integer v) (sent kept (spell v)))) }
+    ensures { Pours (poured (is_integer v) (sent kept (spell v))) out.old at result out.new }
 {
     let negative = signs::is_negative(v);
     let mag = signs::magnitude(v);
@@ -86,7 +86,7 @@ pub fn pour_integer(kept: Remembered, v: i32, out: &mut [u8], at: usize) -> usiz
 // The same for a count.
 #[tactic(auto, using(refusals::proofs::Rules::tests, crate::proofs::Writing::poured_numbers))]
 pub fn pour_count(kept: Remembered, n: usize, out: &mut [u8], at: usize) -> usize
-    ensures { (result ≡ length (poured (leb n most_entries) (sent kept (spell (pos n))))) × (out.new ≡ sets out.old at (poured (leb n most_entries) (sent kept (spell (pos n))))) }
+    ensures { Pours (poured (leb n most_entries) (sent kept (spell (pos n)))) out.old at result out.new }
 {
     if n > MOST_ENTRIES {
         return 0;
@@ -101,7 +101,7 @@ pub fn pour_count(kept: Remembered, n: usize, out: &mut [u8], at: usize) -> usiz
 // 8 for a value outside -32768..32767, then 7.
 #[tactic(auto, using(crate::proofs::Writing::written_integers))]
 pub fn write_integer(kept: Remembered, v: i32, out: &mut [u8], at: usize) -> Result<usize, Refusal>
-    ensures { (answer_of result ≡ write_integer kept v (length out.old) at) × (out.new ≡ after_write (answer_of result) (sent kept (spell v)) out.old at) }
+    ensures { Wrote (sent kept (spell v)) (write_integer kept v (length out.old) at) out.old at result out.new }
 {
     if !signs::is_integer(v) {
         return Err(Refusal::NotValid);
@@ -117,7 +117,7 @@ pub fn write_integer(kept: Remembered, v: i32, out: &mut [u8], at: usize) -> Res
 // 8 for a count above 256, then 7.
 #[tactic(auto, using(crate::proofs::Writing::written_counts))]
 pub fn write_count(kept: Remembered, n: usize, out: &mut [u8], at: usize) -> Result<usize, Refusal>
-    ensures { (answer_of result ≡ write_count kept n (length out.old) at) × (out.new ≡ after_write (answer_of result) (sent kept (spell (pos n))) out.old at) }
+    ensures { Wrote (sent kept (spell (pos n))) (write_count kept n (length out.old) at) out.old at result out.new }
 {
     if MOST_ENTRIES < n {
         return Err(Refusal::NotValid);

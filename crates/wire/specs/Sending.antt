@@ -1,10 +1,11 @@
 -- Bytes that are written.
-use Rattle.std.specs.Prelude.{ℕ, ◌+◌, ◌-◌, min, Bool, true, false, List, [], ◌∷◌, ◌++◌, length, leb, eqb}
+use Rattle.std.specs.Prelude.{◌≡◌, ℕ, ◌+◌, ◌-◌, min, Bool, true, false, List, [], ◌∷◌, ◌++◌, length, leb, eqb, Result}
 use Rattle.std.proofs.lemmas.List.Edits.{sets}
 use Rattle.memory.specs.declared.DelMode.{DelMode}
 use Rattle.memory.specs.declared.DelMode.TheVariants.{Data, Filler}
 use Rattle.memory.specs.declared.Remembered.{Remembered}
-use Rattle.refusals.specs.Answers.{Answer, done, refused, pick}
+use Rattle.refusals.specs.declared.Refusal.{Refusal}
+use Rattle.refusals.specs.Answers.{Answer, done, refused, answer_of, pick}
 
 -- "the writer in that mode writes it so": a 127 as the pair 27 63
 abbrev pub paired : ℕ → List ℕ
@@ -47,6 +48,14 @@ write_if inside w room at = pick inside (write_at w room at) (refused 8 0)
 unfoldable pub after_write : Answer ℕ → List ℕ → List ℕ → ℕ → List ℕ
 after_write (done n) w l at = sets l at w
 after_write (refused e p) w l at = l
+
+-- bytes are poured: how many they are, and that they stand from at on, as far as there is room
+abbrev pub Pours : List ℕ → List ℕ → ℕ → ℕ → List ℕ → Type 0
+Pours w l at n o = (n ≡ length w) × (o ≡ sets l at w)
+
+-- a writing of w is told so, and the lent bytes are those behind what it tells
+abbrev pub Wrote : List ℕ → Answer ℕ → List ℕ → ℕ → Result ℕ Refusal → List ℕ → Type 0
+Wrote w told l at r o = (answer_of r ≡ told) × (o ≡ after_write (answer_of r) w l at)
 
 -- what is poured: all of it where it is inside its range, and nothing where it is not
 unfoldable pub poured : (inside : Bool) → List ℕ → List ℕ

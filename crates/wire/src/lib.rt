@@ -5,7 +5,7 @@ ghost use Rattle.std.specs.Prelude.{◌≡◌, ◌+◌, [], ◌∷◌, length};
 ghost use Rattle.std.proofs.lemmas.List.Edits.{sets};
 ghost use Rattle.refusals.specs.Answers.{answer_at, answer_of, past_front, every};
 ghost use Rattle.wire.specs.Taking.{is_del, past_dels, pair_at, found_at, byte_at, most_itself, is_itself};
-ghost use Rattle.wire.specs.Sending.{sent, is_plain, room_for, in_room, write_at, after_write};
+ghost use Rattle.wire.specs.Sending.{sent, is_plain, room_for, in_room, write_at, after_write, Pours, Wrote};
 
 use memory::{DelMode, Remembered};
 use refusals::{Refusal, RefusedAt, Taken};
@@ -146,7 +146,7 @@ pub fn copy(w: &[u8], out: &mut [u8], at: usize)
 // The bytes `w` into `out` from `at` on: all of them, or 7 and none.
 #[tactic(auto, using(crate::proofs::Writings::writings))]
 pub fn write_bytes(w: &[u8], out: &mut [u8], at: usize) -> Result<usize, Refusal>
-    ensures { (answer_of result ≡ write_at w.now (length out.old) at) × (out.new ≡ after_write (answer_of result) w.now out.old at) }
+    ensures { Wrote w.now (write_at w.now (length out.old) at) out.old at result out.new }
 {
     let next = room_for(w.len(), out.len(), at)?;
     copy(w, out, at);
@@ -186,7 +186,7 @@ fn store_pair(n: usize, out: &mut [u8], at: usize)
 // A 127 as it is sent: itself, or the pair.
 #[tactic(auto, using(crate::proofs::Sendings::dels))]
 fn pour_del(kept: Remembered, n: usize, out: &mut [u8], at: usize) -> usize
-    ensures { (result ≡ length (sent kept (127 ∷ []))) × (out.new ≡ sets out.old (at + n) (sent kept (127 ∷ []))) }
+    ensures { Pours (sent kept (127 ∷ [])) out.old (at + n) result out.new }
 {
     let mode = kept.mode;
     match mode {
@@ -204,7 +204,7 @@ fn pour_del(kept: Remembered, n: usize, out: &mut [u8], at: usize) -> usize
 // One byte of a parameter, as it is sent, behind the `n` bytes from `at` on, as far as there is room.
 #[tactic(auto, using(crate::proofs::Sendings::ones))]
 pub fn pour_behind(kept: Remembered, n: usize, b: u8, out: &mut [u8], at: usize) -> usize
-    ensures { (result ≡ length (sent kept (b ∷ []))) × (out.new ≡ sets out.old (at + n) (sent kept (b ∷ []))) }
+    ensures { Pours (sent kept (b ∷ [])) out.old (at + n) result out.new }
 {
     if b == 127 {
         return pour_del(kept, n, out, at);
@@ -217,14 +217,14 @@ pub fn pour_behind(kept: Remembered, n: usize, b: u8, out: &mut [u8], at: usize)
 // lending no room finds the length.
 #[tactic(auto, using(crate::proofs::Sendings::one_first))]
 pub fn pour_one(kept: Remembered, a: u8, out: &mut [u8], at: usize) -> usize
-    ensures { (result ≡ length (sent kept (a ∷ []))) × (out.new ≡ sets out.old at (sent kept (a ∷ []))) }
+    ensures { Pours (sent kept (a ∷ [])) out.old at result out.new }
 {
     pour_behind(kept, 0, a, out, at)
 }
 
 #[tactic(auto, using(crate::proofs::Writings::more))]
 pub fn pour_two(kept: Remembered, a: u8, b: u8, out: &mut [u8], at: usize) -> usize
-    ensures { (result ≡ length (sent kept (a ∷ b ∷ []))) × (out.new ≡ sets out.old at (sent kept (a ∷ b ∷ []))) }
+    ensures { Pours (sent kept (a ∷ b ∷ [])) out.old at result out.new }
 {
     let n = pour_one(kept, a, out, at);
     let m = pour_behind(kept, n, b, out, at);
@@ -233,7 +233,7 @@ pub fn pour_two(kept: Remembered, a: u8, b: u8, out: &mut [u8], at: usize) -> us
 
 #[tactic(auto, using(crate::proofs::Writings::more))]
 pub fn pour_three(kept: Remembered, a: u8, b: u8, d: u8, out: &mut [u8], at: usize) -> usize
-    ensures { (result ≡ length (sent kept (a ∷ b ∷ d ∷ []))) × (out.new ≡ sets out.old at (sent kept (a ∷ b ∷ d ∷ []))) }
+    ensures { Pours (sent kept (a ∷ b ∷ d ∷ [])) out.old at result out.new }
 {
     let n = pour_two(kept, a, b, out, at);
     let m = pour_behind(kept, n, d, out, at);

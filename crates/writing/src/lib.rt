@@ -5,7 +5,7 @@ ghost use Rattle.std.specs.Prelude.{◌≡◌, true, [], ◌∷◌, ◌++◌, �
 ghost use Rattle.std.proofs.lemmas.List.Edits.{sets};
 ghost use Rattle.memory.specs.Memory.{inside, remember};
 ghost use Rattle.refusals.specs.Answers.{answer_of};
-ghost use Rattle.wire.specs.Sending.{sent, write_at, after_write};
+ghost use Rattle.wire.specs.Sending.{sent, write_at, after_write, Wrote};
 ghost use Rattle.points.specs.Writing.{spell_point};
 ghost use Rattle.parameters.specs.Shapes.{list_of, values_of, tail_of};
 ghost use Rattle.parameters.specs.Behind.{after_values};
@@ -216,7 +216,7 @@ fn most_bytes(mode: DelMode) -> usize
 #[tactic(auto, using(crate::proofs::Lists::sendings))]
 fn send(kept: Remembered, command: Command, list: &[i32], out: &mut [u8]) -> Result<usize, Refusal>
     requires { fits kept command.parameters list.now ≡ true }
-    ensures { (answer_of result ≡ write_at (spell_command kept command list.now) (length out.old) 0) × (out.new ≡ after_write (answer_of result) (spell_command kept command list.now) out.old 0) }
+    ensures { Wrote (spell_command kept command list.now) (write_at (spell_command kept command list.now) (length out.old) 0) out.old 0 result out.new }
 {
     if out.len() >= most_bytes(kept.mode) {
         return Ok(pour_command(kept, command, list, out));
@@ -236,7 +236,7 @@ pub fn write_command(
     list: &[i32],
     out: &mut [u8],
 ) -> Result<usize, Refusal>
-    ensures { (answer_of result ≡ write_command kept command list.now (length out.old)) × (out.new ≡ after_write (answer_of result) (spell_command kept command list.now) out.old 0) }
+    ensures { Wrote (spell_command kept command list.now) (write_command kept command list.now (length out.old)) out.old 0 result out.new }
 {
     if !writable::is_writable(kept, command, list) {
         return Err(Refusal::NotValid);
@@ -252,7 +252,7 @@ pub fn write_fitting(
     list: &[i32],
     out: &mut [u8],
 ) -> Result<usize, Refusal>
-    ensures { (answer_of result ≡ write_fitting kept command list.now (length out.old)) × (out.new ≡ after_write (answer_of result) (spell_command kept command list.now) out.old 0) }
+    ensures { Wrote (spell_command kept command list.now) (write_fitting kept command list.now (length out.old)) out.old 0 result out.new }
 {
     if !writable::parameters_fit(kept, command.parameters, list) {
         return Err(Refusal::NotValid);
