@@ -4,7 +4,7 @@
 
 ghost use Rattle.std.specs.Prelude.{◌≡◌};
 ghost use Rattle.beam.specs.Validity.{is_size, is_bits, on_surface, in_viewport, is_valid};
-ghost use Rattle.beam.specs.Settings.{settled_by, settled, no_beam, make_fresh, bits_from, set_bits, framed, set_viewport, corners_on, set_beam, stepped, make_step};
+ghost use Rattle.beam.specs.Settings.{settled_by, settled, no_beam, make_fresh, bits_from, set_bits, framed, set_viewport, set_beam, stepped, make_step};
 
 use memory::Point;
 use refusals::Refusal;
@@ -158,8 +158,8 @@ fn frame(beam: Beam, from: Point, to: Point) -> Beam
 pub fn set_viewport(size: Size, beam: Beam, from: Point, to: Point) -> Result<Beam, Refusal>
     ensures { settled_by beam result ≡ set_viewport size.w size.h beam from to }
 {
-    let allowed = size.contains(from.x as usize, from.y as usize)
-        && size.contains(to.x as usize, to.y as usize);
+    let allowed = size.contains(usize::from(from.x), usize::from(from.y))
+        && size.contains(usize::from(to.x), usize::from(to.y));
     settle(size, beam, allowed, frame(beam, from, to))
 }
 
@@ -168,8 +168,8 @@ pub fn set_viewport(size: Size, beam: Beam, from: Point, to: Point) -> Result<Be
 pub fn set_beam(size: Size, beam: Beam, to: Point) -> Result<Beam, Refusal>
     ensures { settled_by beam result ≡ set_beam size.w size.h beam to }
 {
-    let x = to.x as usize;
-    let y = to.y as usize;
+    let x = usize::from(to.x);
+    let y = usize::from(to.y);
     settle(size, beam, in_viewport(beam, x, y), Beam { x, y, ..beam })
 }
 

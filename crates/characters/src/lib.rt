@@ -29,7 +29,7 @@ pub fn byte_of(v: i32) -> u8
 pub fn entry_of(b: u8) -> i32
     ensures { result ≡ pos b }
 {
-    b as i32
+    i32::from(b)
 }
 
 // The bytes of the entries into `out` from `at` on, as far as there is room: nothing is asked between one and the next.

@@ -3,8 +3,7 @@
 #![tactic(auto)]
 
 ghost use Rattle.std.specs.Prelude.{◌≡◌, length};
-ghost use Rattle.refusals.specs.Answers.{answer_of};
-ghost use Rattle.wire.specs.Sending.{write_at, after_write, Wrote};
+ghost use Rattle.wire.specs.Sending.{write_at, Wrote};
 ghost use Rattle.stream.specs.Items.{item_of, next_start, next_kept};
 ghost use Rattle.lines.specs.Pouring.{Put};
 ghost use Rattle.listing.specs.Listing.{lines_of, listing_with, listing_of};

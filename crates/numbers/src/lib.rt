@@ -52,7 +52,7 @@ fn after_one(kept: Remembered, s: &[u8], at: usize, high: u16) -> Result<Taken<i
     if byte.value < 64 {
         return low_byte(high, byte.value, byte.place, byte.next);
     }
-    let higher = high * 64 + (byte.value % 64) as u16;
+    let higher = high * 64 + u16::from(byte.value % 64);
     after_two(kept, s, byte.next, higher)
 }
 
@@ -65,7 +65,7 @@ fn by_bytes(kept: Remembered, s: &[u8], at: usize) -> Result<Taken<i32>, Refused
     if byte.value < 64 {
         return low_byte(0, byte.value, byte.place, byte.next);
     }
-    let high = (byte.value % 64) as u16;
+    let high = u16::from(byte.value % 64);
     after_one(kept, s, byte.next, high)
 }
 
@@ -78,7 +78,7 @@ fn highs_before(a: u8, b: u8) -> usize
 {
     let one = a / 64;
     let two = (one + b / 64) / 2;
-    (one + two) as usize
+    usize::from(one + two)
 }
 
 // The number, or 0 where the flag is 0; a product, for the same reason.
@@ -94,10 +94,10 @@ fn high_value(a: u8, b: u8) -> u16
     requires { (a < 128) × (b < 128) }
     ensures { result ≡ high_value a b }
 {
-    let one = (a / 64) as u16;
-    let two = (one + (b / 64) as u16) / 2;
-    let high = only_if(one, (a % 64) as u16);
-    high + only_if(two, 63 * high + (b % 64) as u16)
+    let one = u16::from(a / 64);
+    let two = (one + u16::from(b / 64)) / 2;
+    let high = only_if(one, u16::from(a % 64));
+    high + only_if(two, 63 * high + u16::from(b % 64))
 }
 
 // Whether it is seen at once that an integer ends among the three bytes from `at` on and that each of its bytes is taken as it stands, in either

@@ -1,10 +1,10 @@
 // The pixel calls for programs in other languages (include/ardhrumesh.h): the beam record is a lent array, the answer is a number.
 #![tactic(auto)]
 
-ghost use Rattle.std.specs.Prelude.{◌≡◌, length};
+ghost use Rattle.std.specs.Prelude.{◌≡◌};
 ghost use Rattle.coordinates.specs.Coordinates.{point_given};
-ghost use Rattle.beam.specs.Settings.{settled_by, make_fresh, set_bits, set_viewport, set_beam, make_step};
-ghost use Rattle.pixels.specs.Writes.{drawn_by, draw_raster, raster_surface, draw_runs, runs_surface};
+ghost use Rattle.beam.specs.Settings.{settled_by, make_fresh, set_viewport, set_beam, make_step};
+ghost use Rattle.pixels.specs.Writes.{drawn_by};
 ghost use Rattle.pixel_calls.specs.Fields.{beam_in, fields_of};
 ghost use Rattle.pixel_calls.specs.Promises.{HandsSettled, HandsWritten, BitsHanded, RasterHanded, RasterLeaves, RunsHanded, RunsLeave};
 

@@ -1,11 +1,11 @@
 // The packed point: read from a remembered point with all that may be left out, and written with all of that left out.
 #![tactic(auto)]
 
-ghost use Rattle.std.specs.Prelude.{◌≡◌, ◌&&◌, ◌<◌, ◌≤◌, ◌+◌, ◌*◌, ◌/◌, ◌%◌, length};
+ghost use Rattle.std.specs.Prelude.{◌≡◌, ◌&&◌, ◌≤◌, ◌+◌, ◌*◌, ◌%◌, length};
 ghost use Rattle.std.proofs.lemmas.List.Edits.{sets};
 ghost use Rattle.memory.specs.Memory.{inside};
-ghost use Rattle.refusals.specs.Answers.{answer_at, answer_of};
-ghost use Rattle.wire.specs.Sending.{sent, after_write, poured, Pours, Wrote};
+ghost use Rattle.refusals.specs.Answers.{answer_at};
+ghost use Rattle.wire.specs.Sending.{sent, poured, Pours, Wrote};
 ghost use Rattle.points.specs.Layout.{Inside, bytes_of, coordinates};
 ghost use Rattle.points.specs.Reading.{lo_x, last_at, after_lo_y, after_upper, after_hi_y, point_from, point_at};
 ghost use Rattle.points.specs.Writing.{part, omits_lo_y, upper_bytes, spell_bytes, spell_point, write_point};
@@ -50,7 +50,7 @@ fn bytes_of(p: Point) -> PointBytes
 fn coordinate(hi: u8, lo: u8, rest: u8) -> u16
     ensures { result ≡ hi % 32 * 128 + lo % 32 * 4 + rest % 4 }
 {
-    (hi % 32) as u16 * 128 + (lo % 32) as u16 * 4 + (rest % 4) as u16
+    u16::from(hi % 32) * 128 + u16::from(lo % 32) * 4 + u16::from(rest % 4)
 }
 
 // The point of five bytes. The 16 bit of Extra is not looked at.

@@ -4,8 +4,8 @@
 
 ghost use Rattle.std.specs.Prelude.{◌≡◌, ◌≤◌, ◌+◌, true, length};
 ghost use Rattle.std.proofs.lemmas.List.Edits.{sets};
-ghost use Rattle.refusals.specs.Answers.{answer_at, answer_of};
-ghost use Rattle.wire.specs.Sending.{write_at, after_write, Wrote};
+ghost use Rattle.refusals.specs.Answers.{answer_at};
+ghost use Rattle.wire.specs.Sending.{write_at, Wrote};
 ghost use Rattle.characters.specs.Characters.{are_characters};
 ghost use Rattle.reports.specs.Reading.{byte_within, report_value, report_from, report_at, characters_end, string_at, after_string, entries_at};
 ghost use Rattle.reports.specs.Writing.{spell_report_of, spell_report, write_report, spell_string, write_string};
@@ -46,9 +46,9 @@ fn value_of(first: u8, second: u8, low: u8) -> i32
     requires { (32 ≤ first) × ((first ≤ 95) × ((32 ≤ second) × (second ≤ 95))) }
     ensures { result ≡ report_value first second low }
 {
-    let high = (first - 32) as u16 * 1024;
-    let middle = (second - 32) as u16 * 16;
-    signs::signed(high + middle + (low % 16) as u16, low < 48)
+    let high = u16::from(first - 32) * 1024;
+    let middle = u16::from(second - 32) * 16;
+    signs::signed(high + middle + u16::from(low % 16), low < 48)
 }
 
 #[tactic(auto, using(crate::proofs::Stepping::at_least, crate::proofs::Stepping::at_most), unfolding(refusals::specs::Answers::answer_at, crate::specs::Reading::report_from))]

@@ -2,11 +2,9 @@
 #![tactic(auto)]
 
 ghost use Rattle.std.specs.Prelude.{◌≡◌, ◌≤◌, length, leb, pos};
-ghost use Rattle.std.proofs.lemmas.List.Edits.{sets};
-ghost use Rattle.refusals.specs.Answers.{answer_of};
 ghost use Rattle.signs.specs.Signs.{is_integer};
 ghost use Rattle.ranges.specs.Ranges.{most_entries};
-ghost use Rattle.wire.specs.Sending.{sent, after_write, poured, Pours, Wrote};
+ghost use Rattle.wire.specs.Sending.{sent, poured, Pours, Wrote};
 ghost use Rattle.numbers.specs.Integers.{low_of, spell_of, spell, write_integer};
 ghost use Rattle.numbers.specs.Counts.{write_count};
 

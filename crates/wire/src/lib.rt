@@ -5,7 +5,7 @@ ghost use Rattle.std.specs.Prelude.{◌≡◌, ◌+◌, [], ◌∷◌, length};
 ghost use Rattle.std.proofs.lemmas.List.Edits.{sets};
 ghost use Rattle.refusals.specs.Answers.{answer_at, answer_of, past_front, every};
 ghost use Rattle.wire.specs.Taking.{is_del, past_dels, pair_at, found_at, byte_at, most_itself, is_itself};
-ghost use Rattle.wire.specs.Sending.{sent, is_plain, room_for, in_room, write_at, after_write, Pours, Wrote};
+ghost use Rattle.wire.specs.Sending.{sent, is_plain, room_for, in_room, write_at, Pours, Wrote};
 
 use memory::{DelMode, Remembered};
 use refusals::{Refusal, RefusedAt, Taken};

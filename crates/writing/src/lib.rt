@@ -4,8 +4,7 @@
 ghost use Rattle.std.specs.Prelude.{◌≡◌, true, [], ◌∷◌, ◌++◌, ◌≤◌, ◌+◌, length};
 ghost use Rattle.std.proofs.lemmas.List.Edits.{sets};
 ghost use Rattle.memory.specs.Memory.{inside, remember};
-ghost use Rattle.refusals.specs.Answers.{answer_of};
-ghost use Rattle.wire.specs.Sending.{sent, write_at, after_write, Wrote};
+ghost use Rattle.wire.specs.Sending.{sent, write_at, Wrote};
 ghost use Rattle.points.specs.Writing.{spell_point};
 ghost use Rattle.parameters.specs.Shapes.{list_of, values_of, tail_of};
 ghost use Rattle.parameters.specs.Behind.{after_values};

@@ -1,7 +1,0 @@
-use native.Mathlib.Omega.{arith}
-use mir.Syntax.{w32}
-use mir.Facts.{to_z_pos}
-use Rattle.characters.proofs.entry_of.Goals as goal
-
-pub returns : goal.returns
-returns c = to_z_pos w32 (omega (arith, c.ranges.b.fits))
