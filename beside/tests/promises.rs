@@ -153,7 +153,7 @@ fn named(page: &str) -> Names {
     elsewhere.chain(of_calls).collect()
 }
 
-/// The public calls of a library, exported ones too.
+/// The public calls of a library, methods and exported ones too.
 fn public(name: &str) -> Names {
     let text = text_of(&root().join(format!("crates/{name}/src/lib.rt")));
     let head = |line: &str| {
@@ -162,7 +162,7 @@ fn public(name: &str) -> Names {
             .or(line.strip_prefix("pub extern \"C\" fn "))?;
         Some(rest.split(['(', '<']).next()?.to_string())
     };
-    text.lines().filter_map(head).collect()
+    text.lines().map(str::trim_start).filter_map(head).collect()
 }
 
 #[test]
