@@ -71,10 +71,10 @@ pub struct TakenParameters {
 
 // Two integers or characters, and where reading goes on.
 #[derive(Clone, Copy)]
-struct TwoEntries {
-    one: i32,
-    two: i32,
-    next: usize,
+pub struct TwoEntries {
+    pub one: i32,
+    pub two: i32,
+    pub next: usize,
 }
 
 // ---- entries
