@@ -19,7 +19,10 @@ pub enter-returns-then-from-ge-MOST_ENTERED : goal.enter-returns-then-from-ge-MO
 enter-returns-then-from-ge-MOST_ENTERED t c = search (rules, enter_full)
 
 pub enter-walk-requires : goal.enter-walk-requires
-enter-walk-requires t c = search (rules, enter_roomy)
+enter-walk-requires t c = (
+  search rules,
+  enter_roomy _ _ c.args.number c.args.from c.ranges.number c.args.self.first c.args.self.second c.look_by_headers-body.ensures.result_value c.if-from-ge-MOST_ENTERED.false c.requires,
+)
 
 pub enter-returns : goal.enter-returns
 enter-returns t c = search (rules, enter_in)

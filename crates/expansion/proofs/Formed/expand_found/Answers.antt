@@ -13,4 +13,8 @@ pub returns-then-end-out : goal.returns-then-end-out
 returns-then-end-out c = let answer = c.in_ok-end.was in search (rules, short-told, short-out)
 
 pub returns : goal.returns
-returns c = let answer = c.in_ok-end.was in search (rules, done-told, done-out)
+returns c =
+    record {
+      result_value = done-told _ _ c.args.number c.args.kept c.ranges.number _ c.look.ensures c.in_ok-end.was c.args.out.now c.if-end-out.false c.run.ensures;
+      out_after = done-out _ _ c.args.number c.args.kept c.ranges.number _ c.look.ensures c.in_ok-end.was c.args.out.now c.if-end-out.false c.run.ensures;
+    }
