@@ -14,13 +14,6 @@ use Rattle.beam.specs.declared.Beam.{Beam}
 use Rattle.beam.specs.Validity.{is_size, is_bits}
 use Rattle.beam.specs.Settings.{settled, Settled, bits_from, with_bits, set_bits}
 
--- a test that the code made
-pub no_of : {r b : Bool} → r ≡ b → r ≡ false → b ≡ false
-no_of e t = sym e ∙ t
-
-pub yes_of : {r b : Bool} → r ≡ b → r ≡ true → b ≡ true
-yes_of e t = sym e ∙ t
-
 -- ---- a size
 
 pub size_w : (w h : ℕ) → is_size w h ≡ true → 1 ≤ w

@@ -5,7 +5,7 @@ use mathlib.Core.Bool.{Bool, true}
 use mathlib.Core.List.{List, [], ◌∷◌, map}
 use native.Mathlib.Nat.{le_of_suc-le-suc, not-suc-le-zero}
 use native.Mathlib.Numerals.{add-one}
-use lib.ListN.{length, get_or, drop, drop_of_length-le, length-map, get_or-map, get_or-eq_default}
+use lib.ListN.{length, get_or, drop, drop_of_length-le, length-map, get_or-map}
 use lib.Seq.{drop-cons}
 use lib.IntN.{ℤ, pos, nat_abs}
 use mir.Syntax.{w32}
@@ -28,9 +28,6 @@ module _ (l : List ℤ) (i : ℕ) where
   no_entry h =
       let n : length (map nat_abs l) ≤ i = rw (length-map l nat_abs) h in
       drop_of_length-le (map nat_abs l) n
-
-  pub entry_behind : length l ≤ i → 0 ≡ get_or (map nat_abs l) i 0
-  entry_behind h = sym (get_or-eq_default (map nat_abs l) 0 (rw (length-map l nat_abs) h))
 
 -- what passes for each passes for the one at i
 pub every-at : {A : Type 0} (ok : A → Bool) (l : List A) (d : A) (i : ℕ) → every ok l ≡ true → i < length l → ok (get_or l i d) ≡ true
