@@ -7,10 +7,11 @@ use native.Mathlib.Omega.{arith}
 use borrow.Author.Tests.{eq-eqb, ne_eqb}
 use lib.ListN.{length}
 use Rattle.beam.specs.declared.Beam.{Beam}
+use Rattle.pixels.specs.declared.Canvas.{Canvas}
 use Rattle.pixel_refusals.specs.Tests.{per_character, end_of_row}
 use Rattle.pixels.specs.Marks.{Mark, ink, laid, moved, row_end}
 use Rattle.pixels.specs.Writes.{pixels, character_marks, run}
-use Rattle.pixels.specs.Standing.{Ready, MarksLaid}
+use Rattle.pixels.specs.Standing.{Ready, MarksLaid, IsReady, Lays}
 use Rattle.pixels.proofs.Laying.{laid-append, laid-length, moved-append, moved_inside, moved-bits}
 use Rattle.pixels.proofs.Rows.{row_kept}
 
@@ -42,6 +43,26 @@ module _ {w h : ℕ} {ms₀ : List Mark} {beam₀ : Beam} {s₀ : List ℕ} {ms 
   pub going_done : ms ≡ [] → MarksLaid w h ms₀ beam₀ s₀ beam s
   unfolding laid moved
   going_done e = record { behind = ap (λ (l : List Mark). moved l beam) (sym e) ∙ g.end; surface = ap (λ (l : List Mark). laid w h l beam s) (sym e) ∙ g.surface }
+
+-- ---- the same of a canvas
+
+pub record Drawing (ms₀ : List Mark) (c₀ : Canvas) (ms : List Mark) (c : Canvas) : Type 0 where
+  pub going : Going c₀.size.w c₀.size.h ms₀ c₀.beam c₀.surface.now ms c.beam c.surface.now
+  pub size : c.size ≡ c₀.size
+  pub same : c.surface.ghost_name ≡ c₀.surface.ghost_name
+
+pub drawing : (ms : List Mark) (c : Canvas) → IsReady c → Drawing ms c ms c
+drawing ms c r = record { going = going ms c.beam c.surface.now r; size = refl; same = refl }
+
+module _ {ms₀ : List Mark} {c₀ : Canvas} {ms : List Mark} {c : Canvas} (d : Drawing ms₀ c₀ ms c) where
+  pub drawing_ready : IsReady c
+  drawing_ready = rw d.size d.going.ready
+
+  pub drawing_on : (xs ys : List Mark) {next : Canvas} → ms ≡ xs ++ ys → Lays xs c next → Drawing ms₀ c₀ ys next
+  drawing_on xs ys e l = record { going = going_on d.going xs ys e (rw d.size at l.laid); size = l.size ∙ d.size; same = l.same ∙ d.same }
+
+  pub drawing_done : ms ≡ [] → Lays ms₀ c₀ c
+  drawing_done e = record { laid = going_done d.going e; size = d.size; same = d.same }
 
 -- ---- runs and pixels, i of n laid
 

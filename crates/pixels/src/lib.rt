@@ -7,7 +7,7 @@ ghost use Rattle.refusals.specs.Answers.{every};
 ghost use Rattle.pixel_refusals.specs.Tests.{is_raster, run_numbers};
 ghost use Rattle.pixels.specs.Marks.{ink, moved, row_end};
 ghost use Rattle.pixels.specs.Writes.{pixels, character_marks, left_after, run, raster_marks, run_marks, run_total, drawn_by, draw_raster, raster_surface, draw_runs, runs_surface};
-ghost use Rattle.pixels.specs.Standing.{Ready, MarksLaid};
+ghost use Rattle.pixels.specs.Standing.{IsReady, Lays};
 
 use beam::{Beam, Size};
 use pixel_refusals::END_OF_ROW;
@@ -22,47 +22,6 @@ pub struct Drawn {
 
 // ---- laying
 
-// One colour at the beam's place, and the beam one place on.
-#[tactic(auto, using(crate::proofs::Laying::place_within))]
-fn lay_pixel(surface: &mut [u8], size: Size, beam: Beam, colour: u8) -> Beam
-    requires { Ready size.w size.h beam (length surface.old) }
-    ensures { MarksLaid size.w size.h (ink colour ∷ []) beam surface.old result surface.new }
-{
-    let i = (size.h - 1 - beam.y) * size.w + beam.x;
-    surface[i] = colour;
-    beam::step(beam)
-}
-
-// `n` pixels of one colour.
-fn lay_run(surface: &mut [u8], size: Size, beam: Beam, colour: u8, n: usize) -> Beam
-    requires { Ready size.w size.h beam (length surface.old) }
-    ensures { MarksLaid size.w size.h (run colour n) beam surface.old result surface.new }
-{
-    let mut next = beam;
-    for _ in 0..n {
-        next = lay_pixel(surface, size, next, colour);
-    }
-    next
-}
-
-// The first `n` pixels of six bits, from the top bits down.
-fn lay_pixels(surface: &mut [u8], size: Size, beam: Beam, six: usize, n: usize) -> Beam
-    requires ready { Ready size.w size.h beam (length surface.old) }
-    requires n_bound { (beam.bits * n ≤ 6) × (beam.bits ≤ 6) }
-    ensures { MarksLaid size.w size.h (pixels beam.bits n 6 six) beam surface.old result surface.new }
-{
-    let bits = beam.bits;
-    let mask = (1usize << bits) - 1;
-    let mut next = beam;
-    let mut shift: usize = 6;
-    for _ in 0..n {
-        shift -= bits;
-        let colour = ((six >> shift) & mask) as u8;
-        next = lay_pixel(surface, size, next, colour);
-    }
-    next
-}
-
 // An end-of-row: the beam goes "to the left edge of the row below, round to the top after the last", and no byte is touched.
 #[tactic(auto, using(crate::proofs::Rows::row_end_so))]
 fn row_end(beam: Beam) -> Beam
@@ -73,19 +32,6 @@ fn row_end(beam: Beam) -> Beam
         x: beam.right,
         ..beam
     })
-}
-
-// One raster character where `n` pixels are still to be named: "32 plus six bits", "6/bits to a character"; or an end-of-row.
-#[tactic(auto, using(crate::proofs::Going::character_room))]
-fn lay_character(surface: &mut [u8], size: Size, beam: Beam, n: usize, ch: usize) -> Beam
-    requires ready { Ready size.w size.h beam (length surface.old) }
-    requires bits_nonzero { (0 < beam.bits) × ((beam.bits ≤ 6) × (32 ≤ ch)) }
-    ensures { MarksLaid size.w size.h (character_marks beam n ch) beam surface.old result surface.new }
-{
-    if ch == END_OF_ROW {
-        return row_end(beam);
-    }
-    lay_pixels(surface, size, beam, ch - 32, n.min(6 / beam.bits))
 }
 
 // What is then left of `n`: "Places passed over aren't counted in N."
@@ -100,40 +46,96 @@ fn left_after(beam: Beam, n: usize, ch: usize) -> usize
     n.saturating_sub(6 / beam.bits)
 }
 
-// The `n` pixels of raster characters.
-fn lay_raster(surface: &mut [u8], size: Size, beam: Beam, n: usize, list: &[i32]) -> Beam
-    requires ready { Ready size.w size.h beam (length surface.old) }
-    requires bits_nonzero { (0 < beam.bits) × (beam.bits ≤ 6) }
-    requires list_value { every is_raster list.now ≡ true }
-    ensures { MarksLaid size.w size.h (raster_marks beam n (map nat_abs list.now)) beam surface.old result surface.new }
-{
-    let mut next = beam;
-    let mut left = n;
-    for v in list {
-        let ch = signs::magnitude(*v) as usize;
-        let then_left = left_after(next, left, ch);
-        next = lay_character(surface, size, next, left, ch);
-        left = then_left;
-    }
-    next
+// A lent surface, its size, and the record that it is drawn with.
+#[derive(Drop)]
+struct Canvas<'a> {
+    surface: &'a mut [u8],
+    size: Size,
+    beam: Beam,
 }
 
-// The runs of codes: "length times 2^bits plus colour".
-fn lay_runs(surface: &mut [u8], size: Size, beam: Beam, list: &[i32]) -> Beam
-    requires ready { Ready size.w size.h beam (length surface.old) }
-    requires bits_bound { beam.bits ≤ 6 }
-    ensures { MarksLaid size.w size.h (run_marks beam.bits (map nat_abs list.now)) beam surface.old result surface.new }
-{
-    let bits = beam.bits;
-    let mask = (1usize << bits) - 1;
-    let mut next = beam;
-    for v in list {
-        let code = signs::magnitude(*v) as usize;
-        let colour = (code & mask) as u8;
-        let n = code >> bits;
-        next = lay_run(surface, size, next, colour, n);
+impl<'a> Canvas<'a> {
+    // One colour at the beam's place, and the beam one place on.
+    #[tactic(auto, using(crate::proofs::Laying::place_within))]
+    fn lay_pixel(&mut self, colour: u8)
+        requires { IsReady self.old }
+        ensures { Lays (ink colour ∷ []) self.old self.new }
+    {
+        let i = (self.size.h - 1 - self.beam.y) * self.size.w + self.beam.x;
+        self.surface[i] = colour;
+        self.beam = beam::step(self.beam);
     }
-    next
+
+    // `n` pixels of one colour.
+    fn lay_run(&mut self, colour: u8, n: usize)
+        requires { IsReady self.old }
+        ensures { Lays (run colour n) self.old self.new }
+    {
+        for _ in 0..n {
+            self.lay_pixel(colour);
+        }
+    }
+
+    // The first `n` pixels of six bits, from the top bits down.
+    fn lay_pixels(&mut self, six: usize, n: usize)
+        requires ready { IsReady self.old }
+        requires n_bound { (self.old.beam.bits * n ≤ 6) × (self.old.beam.bits ≤ 6) }
+        ensures { Lays (pixels self.old.beam.bits n 6 six) self.old self.new }
+    {
+        let bits = self.beam.bits;
+        let mask = (1usize << bits) - 1;
+        let mut shift: usize = 6;
+        for _ in 0..n {
+            shift -= bits;
+            self.lay_pixel(((six >> shift) & mask) as u8);
+        }
+    }
+
+    // One raster character where `n` pixels are still to be named: "32 plus six bits", "6/bits to a character"; or an end-of-row.
+    #[tactic(auto, using(crate::proofs::Going::character_room))]
+    fn lay_character(&mut self, n: usize, ch: usize)
+        requires ready { IsReady self.old }
+        requires bits_nonzero { (0 < self.old.beam.bits) × ((self.old.beam.bits ≤ 6) × (32 ≤ ch)) }
+        ensures { Lays (character_marks self.old.beam n ch) self.old self.new }
+    {
+        if ch == END_OF_ROW {
+            self.beam = row_end(self.beam);
+            return;
+        }
+        self.lay_pixels(ch - 32, n.min(6 / self.beam.bits))
+    }
+
+    // The `n` pixels of raster characters.
+    fn lay_raster(&mut self, n: usize, list: &[i32])
+        requires ready { IsReady self.old }
+        requires bits_nonzero { (0 < self.old.beam.bits) × (self.old.beam.bits ≤ 6) }
+        requires list_value { every is_raster list.now ≡ true }
+        ensures { Lays (raster_marks self.old.beam n (map nat_abs list.now)) self.old self.new }
+    {
+        let mut left = n;
+        for v in list {
+            let ch = signs::magnitude(*v) as usize;
+            let then_left = left_after(self.beam, left, ch);
+            self.lay_character(left, ch);
+            left = then_left;
+        }
+    }
+
+    // The runs of codes: "length times 2^bits plus colour".
+    fn lay_runs(&mut self, list: &[i32])
+        requires ready { IsReady self.old }
+        requires bits_bound { self.old.beam.bits ≤ 6 }
+        ensures { Lays (run_marks self.old.beam.bits (map nat_abs list.now)) self.old self.new }
+    {
+        let bits = self.beam.bits;
+        let mask = (1usize << bits) - 1;
+        for v in list {
+            let code = signs::magnitude(*v) as usize;
+            let colour = (code & mask) as u8;
+            let n = code >> bits;
+            self.lay_run(colour, n);
+        }
+    }
 }
 
 // How many pixels the codes name.
@@ -162,8 +164,16 @@ pub fn draw_raster(
 {
     pixel_refusals::raster_verdict(size, surface.len(), beam, n, list)?;
     let count = signs::magnitude(n) as usize;
-    let after = lay_raster(surface, size, beam, count, list);
-    Ok(Drawn { count, beam: after })
+    let mut canvas = Canvas {
+        surface,
+        size,
+        beam,
+    };
+    canvas.lay_raster(count, list);
+    Ok(Drawn {
+        count,
+        beam: canvas.beam,
+    })
 }
 
 // RL: runs by codes.
@@ -172,9 +182,14 @@ pub fn draw_runs(surface: &mut [u8], size: Size, beam: Beam, list: &[i32]) -> Re
 {
     pixel_refusals::run_verdict(size, surface.len(), beam, list)?;
     let total = run_total(beam.bits, list);
-    let after = lay_runs(surface, size, beam, list);
+    let mut canvas = Canvas {
+        surface,
+        size,
+        beam,
+    };
+    canvas.lay_runs(list);
     Ok(Drawn {
         count: total,
-        beam: after,
+        beam: canvas.beam,
     })
 }

@@ -1,3 +1,4 @@
+use borrow.Author.Rules.{rules}
 use Rattle.std.proofs.lemmas.Result.{err_from_is_err_and}
 use Rattle.pixels.proofs.Answering.{runs_ready, runs_six, runs_fit, runs_refused, runs_unchanged, runs_drawn, runs_laid}
 use Rattle.pixels.proofs.draw_runs.Goals as goal
@@ -12,12 +13,13 @@ pub run_total-total-requires : goal.run_total-total-requires
 run_total-total-requires c =
     let e = c.in_ok-run_verdict.ensures in (runs_fit _ _ _ _ _ e, runs_six _ _ _ _ _ e)
 
-pub lay_runs-after-requires : goal.lay_runs-after-requires
-lay_runs-after-requires c =
+pub lay_runs-requires : goal.lay_runs-requires
+lay_runs-requires c =
     let e = c.in_ok-run_verdict.ensures in record { ready = runs_ready _ _ _ _ _ e; bits_bound = runs_six _ _ _ _ _ e }
 
 pub returns : goal.returns
 returns c =
     let e = c.in_ok-run_verdict.ensures in
-    let laid = c.lay_runs-after.ensures in
-    (runs_drawn _ _ _ _ _ _ e laid c.run_total-total.ensures, runs_laid _ _ _ _ _ _ e laid)
+    let laid = c.lay_runs.ensures.laid in
+    let bytes = runs_laid _ _ _ _ _ _ e laid in
+    (runs_drawn _ _ _ _ _ _ e laid c.run_total-total.ensures, search (rules, bytes))

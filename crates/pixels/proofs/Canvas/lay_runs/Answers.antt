@@ -9,23 +9,23 @@ use mir.Val.{SFits}
 use borrow.Author.Rules.{rules}
 use Rattle.pixels.specs.Writes.{run, run_marks}
 use Rattle.pixel_refusals.proofs.Entries.{entry_at, next-entry, no_entry}
-use Rattle.pixels.proofs.Going.{going_on, going_done}
+use Rattle.pixels.proofs.Going.{drawing_on, drawing_done}
 use Rattle.pixels.proofs.Bits.{masked}
-use Rattle.pixels.proofs.lay_runs.Goals as goal
+use Rattle.pixels.proofs.Canvas.lay_runs.Goals as goal
 
 pub loop-v-preserved : goal.loop-v-preserved
 unfolding run_marks
 loop-v-preserved c =
     let a = c.args in
-    let b = a.beam.bits in
+    let b = a.self.now.beam.bits in
     let i = c.loop-v.v-index in
     let fits : SFits w32 (get_or a.list.now i (pos 0)) = search rules in
     let l = map nat_abs a.list.now in
     let k = c.magnitude-code.result in
     let xs = run (bit_and k (1 * 2 ^ b % 2 ^ 64 - 1)) (k / 2 ^ b) in
     let d : run_marks b (drop i l) ≡ xs ++ run_marks b (drop (i + 1) l) = rw (masked b k c.requires.bits_bound) (ap (run_marks b) (next-entry a.list.now i c.loop-v-test.true (entry_at a.list.now i fits c.magnitude-code.ensures))) in
-    going_on c.loop-v.invariant xs (run_marks b (drop (i + 1) l)) d c.lay_run-next.ensures
+    drawing_on c.loop-v.invariant xs (run_marks b (drop (i + 1) l)) d c.lay_run.ensures
 
 pub returns : goal.returns
 unfolding run_marks
-returns c = going_done c.loop-v.invariant (ap (run_marks c.args.beam.bits) (no_entry c.args.list.now c.loop-v.v-index c.loop-v-test.false))
+returns c = drawing_done c.loop-v.invariant (ap (run_marks c.args.self.now.beam.bits) (no_entry c.args.list.now c.loop-v.v-index c.loop-v-test.false))
