@@ -18,7 +18,7 @@ use Rattle.signs.specs.Signs.{is_negative}
 use Rattle.refusals.proofs.Cases.{zero_one}
 use Rattle.lines.specs.Decimals.{digits_of, decimal, field, fields}
 use Rattle.lines.specs.Pouring.{Put}
-use Rattle.lines.proofs.Pours.{poured-none, poured-both, poured-long}
+use Rattle.lines.proofs.Pours.{poured-none, poured_both, poured-long}
 
 -- fuel enough is fuel enough
 abbrev with-last : ℕ → List ℕ → List ℕ
@@ -38,9 +38,9 @@ same_digits (suc j) (suc k) n p q =
 same_digits zero k n p q = absurd (zero_one (omega arith))
 same_digits (suc j) zero n p q = absurd (zero_one (omega arith))
 
-decimal-one : (n : ℕ) → n < 10 → decimal n ≡ (48 + n) ∷ []
+decimal-one : (n : ℕ) → n < 10 → decimal n ≡ (48 + n % 10) ∷ []
 unfolding decimal digits_of
-decimal-one n h = rw (lt-ltb n 10 h)
+decimal-one n h = let e : n % 10 ≡ n = omega arith in rw (e, lt-ltb n 10 h)
 
 decimal-more : (n : ℕ) → 10 ≤ n → decimal n ≡ decimal (n / 10) ++ ((48 + n % 10) ∷ [])
 unfolding decimal digits_of
@@ -48,11 +48,11 @@ decimal-more n h =
     let e : digits_of n (n / 10) ≡ digits_of (suc (n / 10)) (n / 10) = same_digits n (suc (n / 10)) (n / 10) (omega arith) (omega arith) in
     rw (le-ltb n 10 h) (ap (with-last n) e)
 
-pub poured-digit : {l o : List ℕ} {at r : ℕ} (n : ℕ) → n < 10 → Put l at ((48 + n) ∷ []) r o → Put l at (decimal n) r o
+pub poured-digit : {l o : List ℕ} {at r : ℕ} (n : ℕ) → n < 10 → Put l at ((48 + n % 10) ∷ []) r o → Put l at (decimal n) r o
 poured-digit n h p = rw (decimal-one n h) p
 
 pub poured-digits : {l m o : List ℕ} {at k r : ℕ} (n : ℕ) → 10 ≤ n → Put m k ((48 + n % 10) ∷ []) r o → Put l at (decimal (n / 10)) k m → Put l at (decimal n) r o
-poured-digits n h q p = rw (decimal-more n h) (poured-both q p)
+poured-digits n h q p = rw (decimal-more n h) (poured_both q p)
 
 pub ruleset digits = (poured-digit, poured-digits, poured-long)
 
@@ -61,7 +61,7 @@ pub ruleset digits = (poured-digit, poured-digits, poured-long)
 module _ {l m o : List ℕ} {at k r : ℕ} (blank : Put l at (32 ∷ []) k m) where
   pub poured-natural : (n : ℕ) → Put m k (decimal n) r o → Put l at (field (pos n)) r o
   unfolding field
-  poured-natural n q = poured-both q blank
+  poured-natural n q = poured_both q blank
 
   natural : (v : ℤ) → is_negative v ≡ false → Put m k (decimal (nat_abs v)) r o → Put l at (field v) r o
   natural (pos n) e q = poured-natural n q
@@ -70,7 +70,7 @@ module _ {l m o : List ℕ} {at k r : ℕ} (blank : Put l at (32 ∷ []) k m) wh
   negative : {h : List ℕ} {j : ℕ} (v : ℤ) → is_negative v ≡ true → Put m k (45 ∷ []) j h → Put h j (decimal (nat_abs v)) r o → Put l at (field v) r o
   unfolding field
   negative (pos n) e p q = let z : ◌≡◌ {A = ℕ} 0 1 = cc in absurd (zero_one z)
-  negative (negsuc n) e p q = poured-both q (poured-both p blank)
+  negative (negsuc n) e p q = poured_both q (poured_both p blank)
 
 module _ (v : ℤ) (f : SFits w32 v) {s : ℕ} {t : Bool} (es : s ≡ nat_abs (to_z w32 (of_z w32 v))) (et : t ≡ is_negative (to_z w32 (of_z w32 v))) where
   pub poured-plain : {l m o : List ℕ} {at k r : ℕ} → t ≡ false → Put l at (32 ∷ []) k m → Put m k (decimal s) r o → Put l at (field v) r o
@@ -105,7 +105,7 @@ one_more (x ∷ vs) v = rw (one_more vs v) (sym (append_assoc (field x) (fields 
 pub pouring_more : (list : List ℤ) {l₀ l o : List ℕ} {at n k : ℕ} (i : ℕ) (x : ℤ) → Pouring list l₀ at l n i → i < length list → x ≡ get_or list i (pos 0) → Put l n (field x) k o → Pouring list l₀ at o k (i + 1)
 pouring_more list i x f h e p =
     let d : take (i + 1) list ≡ take i list ++ (x ∷ []) = rw (add-one i, e) (take-suc list i (pos 0) h) in
-    record { upto = omega arith; passed = rw (d, one_more (take i list) x) (poured-both p f.passed) }
+    record { upto = omega arith; passed = rw (d, one_more (take i list) x) (poured_both p f.passed) }
 
 -- the same in a `for` loop, where the entry comes back from the callee's contract as the machine reads it
 pub pouring_next : (list : List ℤ) {l₀ l o : List ℕ} {at n k : ℕ} (i : ℕ) → Pouring list l₀ at l n i → i < length list → SFits w32 (get_or list i (pos 0)) → Put l n (field (to_z w32 (of_z w32 (get_or list i (pos 0))))) k o → Pouring list l₀ at o k (i + 1)

@@ -45,8 +45,8 @@ unfolding behind
 poured-far l at b h i = record { room = omega arith; next = omega arith; stands = sym (set_out l at b (omega arith)) }
 
 -- the later first: what it was poured on is what the earlier left
-pub poured-both : {l m o a b : List ℕ} {at n k : ℕ} → Put m n b k o → Put l at a n m → Put l at (a ++ b) k o
-poured-both {l = l} {a = a} {b = b} {at = at} q p =
+pub poured_both : {l m o a b : List ℕ} {at n k : ℕ} → Put m n b k o → Put l at a n m → Put l at (a ++ b) k o
+poured_both {l = l} {a = a} {b = b} {at = at} q p =
     record {
       room = p.room;
       next = q.next ∙ ap (λ (i : ℕ). behind i b) p.next ∙ behind-both a b at;

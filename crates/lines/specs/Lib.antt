@@ -1,3 +1,4 @@
 pub mod Decimals
 pub mod Pouring
 pub mod Lines
+pub mod Pens

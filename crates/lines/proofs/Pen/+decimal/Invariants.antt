@@ -1,0 +1,4 @@
+use Rattle.lines.proofs.Pen.+decimal.Given as goal
+
+abbrev pub decreases-decimal : goal.decreases-decimal
+decreases-decimal l = l.n

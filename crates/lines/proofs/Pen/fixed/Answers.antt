@@ -1,0 +1,6 @@
+use Rattle.std.proofs.Common.{rules}
+use Rattle.lines.proofs.Lined.{lists}
+use Rattle.lines.proofs.Pen.fixed.Goals as goal
+
+pub returns : goal.returns
+returns c = search (rules, lists)
