@@ -7,13 +7,10 @@ use lib.IntN.{ℤ}
 use Rattle.refusals.specs.declared.RefusedAt.{RefusedAt}
 use Rattle.refusals.specs.Refusals.{number_of}
 use Rattle.memory.specs.declared.Remembered.{Remembered}
-use Rattle.table.specs.declared.Kind.{Kind}
-use Rattle.table.specs.Table.{kind_meant}
 use Rattle.parameters.specs.declared.Parameters.{Parameters}
 use Rattle.parameters.specs.declared.Parameters.TheVariants.{OneInteger, TwoIntegers, ThreeIntegers, OnePoint, TwoPoints, AReal, AString, AnArray, IntegerThenArray, IntegerThenString, TwoCharacters}
 use Rattle.parameters.specs.Shapes.{values_of, tail_of}
 use Rattle.parameters.specs.Numbers.{no_values, four_of}
-use Rattle.commands.specs.declared.Command.{Command}
 use Rattle.commands.specs.declared.TakenCommand.{TakenCommand}
 use Rattle.writable.specs.Writable.{kind_for, kind_number}
 use Rattle.stream.specs.declared.TextItem.{TextItem}
@@ -93,9 +90,3 @@ next-item before bytes start list {i = i} ek e el h =
       remembered = h.kept-is ∙ ap (remembered_after before) told;
       filled = el ∙ rw ek;
     }
-
--- ---- a command's slots, as the code numbers its kind
-
-pub command-slots : (c : Command) (kind : Kind) {x : ℕ} (k n : ℕ) → kind_meant kind ≡ kind_for c.parameters → x ≡ kind_number (kind_meant kind)
-    → 2 ∷ n ∷ 0 ∷ c.first ∷ c.second ∷ x ∷ k ∷ [] ≡ command_fields c.first c.second (kind_number (kind_for c.parameters)) k n
-command-slots c kind k n ek ex = ap (λ (y : ℕ). 2 ∷ n ∷ 0 ∷ c.first ∷ c.second ∷ y ∷ k ∷ []) (ex ∙ ap kind_number ek)

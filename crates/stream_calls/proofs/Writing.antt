@@ -23,10 +23,7 @@ use Rattle.table.specs.declared.Kind.{Kind}
 use Rattle.table.specs.declared.Kind.TheVariants as K
 use Rattle.table.specs.Table.{kind_meant, kind_of, found_of}
 use Rattle.parameters.specs.declared.Parameters.{Parameters}
-use Rattle.parameters.specs.Shapes.{values_of}
-use Rattle.parameters.specs.Behind.{after_values}
 use Rattle.commands.specs.declared.Command.{Command}
-use Rattle.commands.specs.Behind.{leading, after_letters}
 use Rattle.writable.specs.Writable.{kind_for, kind_number, is_kind, is_command}
 use Rattle.writing.specs.Writing.{spell_command, write_fitting, write_command}
 use Rattle.coordinates.specs.Remembering.{slots_of, kept_in}
@@ -38,11 +35,6 @@ use Rattle.stream_calls.specs.declared.Sent.{Sent}
 -- numbers that come back from the list as the machine reads them
 pub point_of : (a b : ℤ) {p : Point} → SFits w32 a → SFits w32 b → p ≡ point_given (to_z w32 (of_z w32 a)) (to_z w32 (of_z w32 b)) → p ≡ point_given a b
 point_of a b fa fb ep = point-given a b fa fb ep
-
--- and the letters of the command
-pub behind-given : (kept : Remembered) (first second : ℕ) (k : Kind) (vs : List ℤ) {ps : Parameters} {l m : Remembered} → ps ≡ of_kind (kind_meant k) vs → l ≡ after_values kept (values_of (of_kind (kind_meant k) vs)) → m ≡ after_letters l first second (leading (values_of ps))
-    → m ≡ kept_behind kept (record { first = first; second = second; parameters = ps })
-behind-given kept first second k vs e j h = h ∙ rw (j, e)
 
 -- ---- the command, by what the table has for its letters
 

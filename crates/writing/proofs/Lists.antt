@@ -117,12 +117,6 @@ characters_laid kept list l o at e h ok few j =
     let b = all_bytes 32 list ok in
     record { size = sym (length-map list nat_abs) ∙ ap length s; stand = j ∙ ap (λ (y : List ℕ). sets l at y) (b ∙ s); few = omega arith }
 
-pub all_entries : (e : Entry) (list : List ℤ) {k : Entry} → are_entries e list ≡ true → e ≡ k → are_entries k list ≡ true
-all_entries e list h g = rw g at h
-
-pub all_poured : (e : Entry) (kept : Remembered) (list : List ℤ) (l o : List ℕ) (at r : ℕ) {k : Entry} → e ≡ k → Poured (spell_entries k kept list) 1024 l o at r → Poured (spell_entries e kept list) 1024 l o at r
-all_poured e kept list l o at r g f = rw g f
-
 -- ---- a counted list
 
 module _ (e : Entry) (kept : Remembered) (list : List ℤ) (h : is_tail (list_of e) list ≡ true) where
