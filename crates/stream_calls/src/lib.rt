@@ -52,6 +52,7 @@ fn four_of(parameters: Parameters) -> [i32; 4]
 }
 
 // Only a command that was read changes what is remembered.
+#[tactic(auto, using(refusals::proofs::Rules::tests, crate::proofs::Items::kind_slot_lem), unfolding(stream::specs::Items::item_of, crate::specs::Slots::item_number, crate::specs::Slots::item_fields, crate::specs::Slots::item_values, crate::specs::Slots::remembered_after))]
 pub fn ardh_next_item(
     bytes: &[u8],
     start: usize,
@@ -156,6 +157,7 @@ struct Sent {
 }
 
 // Writes a command whose letters are known to have such parameters; `behind` is what is remembered then.
+#[tactic(auto, unfolding(refusals::specs::Answers::answer_of, crate::specs::Given::sent_behind))]
 fn write_known(
     kept: Remembered,
     command: Command,
@@ -196,6 +198,7 @@ fn write_given(
 }
 
 // Only a command that was written changes what is remembered.
+#[tactic(auto, unfolding(refusals::specs::Answers::answer_of, crate::specs::Given::sent_behind, refusals::specs::Answers::number, refusals::specs::Answers::value_or, crate::specs::Given::slots_after))]
 pub fn ardh_write_command(
     first: u8,
     second: u8,

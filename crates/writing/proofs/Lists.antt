@@ -2,7 +2,7 @@
 use Prim.Native.Nat.{ℕ, ◌+◌, ◌*◌, ◌≤◌, ◌<◌}
 use mathlib.Core.Path.{◌≡◌, refl, sym, ◌∙◌, ap}
 use mathlib.Core.Bool.{Bool, true, ◌&&◌}
-use mathlib.Core.List.{List, [], ◌∷◌, ◌++◌, append_assoc}
+use mathlib.Core.List.{List, [], ◌∷◌, ◌++◌}
 use native.Mathlib.Omega.{arith}
 use native.Mathlib.Numerals.{add-one}
 use borrow.Author.Tests.{le-leb, leb-true}
@@ -28,13 +28,12 @@ use Rattle.numbers.proofs.Shortest.{integer-few}
 use Rattle.parameters.specs.declared.Entry.{Entry}
 use Rattle.parameters.specs.declared.Entry.TheVariants.{ACharacter}
 use Rattle.parameters.specs.declared.Parameters.{Parameters}
-use Rattle.parameters.specs.Shapes.{list_of, Pointed, no_point, last, tail_meant, point_meant, Value, number, scaled, place, values_of, tail_of, last_from, last_point}
+use Rattle.parameters.specs.Shapes.{list_of, Pointed, no_point, last, point_meant, Value, number, scaled, place, values_of, tail_of, last_from, last_point}
 use Rattle.parameters.specs.Behind.{after_values}
 use Rattle.commands.specs.declared.Command.{Command}
-use Rattle.writable.specs.Writable.{is_kind, is_entry, are_entries, are_values, is_tail, fits, is_command}
-use Rattle.writing.specs.Writing.{spell_entry, spell_entries, spell_values, spell_tail, spell_parameters, spell_command, Poured, most_written}
+use Rattle.writable.specs.Writable.{is_entry, are_entries, are_values, is_tail, fits}
+use Rattle.writing.specs.Writing.{spell_entry, spell_entries, spell_command, Poured, most_written}
 use Rattle.writing.proofs.Sizes.{tail-kept, bytes-few}
-use Rattle.writing.proofs.Pouring.{poured-both}
 
 -- ---- entries
 
@@ -117,12 +116,6 @@ characters_laid kept list l o at e h ok few j =
     let b = all_bytes 32 list ok in
     record { size = sym (length-map list nat_abs) ∙ ap length s; stand = j ∙ ap (λ (y : List ℕ). sets l at y) (b ∙ s); few = omega arith }
 
-pub all_entries : (e : Entry) (list : List ℤ) {k : Entry} → are_entries e list ≡ true → e ≡ k → are_entries k list ≡ true
-all_entries e list h g = rw g at h
-
-pub all_poured : (e : Entry) (kept : Remembered) (list : List ℤ) (l o : List ℕ) (at r : ℕ) {k : Entry} → e ≡ k → Poured (spell_entries k kept list) 1024 l o at r → Poured (spell_entries e kept list) 1024 l o at r
-all_poured e kept list l o at r g f = rw g f
-
 -- ---- a counted list
 
 module _ (e : Entry) (kept : Remembered) (list : List ℤ) (h : is_tail (list_of e) list ≡ true) where
@@ -146,26 +139,6 @@ module _ (e : Entry) (kept : Remembered) (list : List ℤ) (h : is_tail (list_of
 
   pub count-few : {n : ℕ} → n ≡ length (poured (leb (length list) 256) (sent kept (spell (pos (length list))))) → n ≤ 4
   count-few e = rw e count_long
-
-  pub list_poured : (l m o : List ℕ) (at n r : ℕ) → n ≡ length (poured (leb (length list) 256) (sent kept (spell (pos (length list))))) → m ≡ sets l at (poured (leb (length list) 256) (sent kept (spell (pos (length list))))) → Poured (spell_entries e kept list) 1024 m o (at + n) r → Poured (spell_tail kept (list_of e) list) 1028 l o at (n + r)
-  unfolding spell_tail
-  list_poured l m o at n r en em f =
-      let w = sent kept (spell (pos (length list))) in
-      let g : Poured w 4 l m at n = record { size = en ∙ ap length count-is; stand = em ∙ ap (λ (y : List ℕ). sets l at y) count-is; few = count-few en } in
-      poured-both w (spell_entries e kept list) 4 1024 1028 l m o at n r g f (omega arith)
-
--- ---- the tail of each kind
-
-module _ (ps : Parameters) (es : List ℤ) {u : Option Entry} (eu : tail_meant u ≡ tail_of ps) where
-  pub tail-ok : {e : Entry} → is_tail (tail_of ps) es ≡ true → u ≡ Some e → is_tail (list_of e) es ≡ true
-  tail-ok h g = rw (← eu, g) at h
-
-  pub tail-poured : (kept : Remembered) (e : Entry) (l o : List ℕ) (at r : ℕ) → u ≡ Some e → Poured (spell_tail kept (list_of e) es) 1028 l o at r → Poured (spell_tail kept (tail_of ps) es) 1028 l o at r
-  tail-poured kept e l o at r g f = rw (← eu, g) f
-
-  pub no_tail : (kept : Remembered) (l : List ℕ) (at : ℕ) → u ≡ None → Poured (spell_tail kept (tail_of ps) es) 1028 l l at 0
-  unfolding spell_tail
-  no_tail kept l at g = rw (← eu, g) (record { size = refl; stand = refl; few = omega arith })
 
 -- ---- what is remembered: the last point
 
@@ -211,27 +184,7 @@ module _ (kept : Remembered) (ps : Parameters) (es : List ℤ) (h : fits kept ps
 pub head_stored : (l : List ℕ) (a b : ℕ) {m₁ m₂ o : List ℕ} → m₁ ≡ sets l (0 + 0) (27 ∷ []) → m₂ ≡ sets m₁ (0 + 1) (a ∷ []) → o ≡ sets m₂ (0 + 2) (b ∷ []) → o ≡ sets l 0 (27 ∷ a ∷ b ∷ [])
 head_stored l a b e f g = g ∙ rw (f, e)
 
-pub command-poured : (kept : Remembered) (c : Command) (es : List ℤ) (l m o q : List ℕ) (n r : ℕ) → m ≡ sets l 0 (27 ∷ c.first ∷ c.second ∷ []) → Poured (spell_values kept (values_of c.parameters)) 12 m o 3 n → Poured (spell_tail kept (tail_of c.parameters) es) 1028 o q (3 + n) r → Poured (spell_command kept c es) 1043 l q 0 (3 + n + r)
-unfolding spell_command spell_parameters
-command-poured kept c es l m o q n r em f g =
-    let head : List ℕ = 27 ∷ c.first ∷ c.second ∷ [] in
-    let vs = values_of c.parameters in
-    let w = spell_values kept vs in
-    let t = spell_tail (after_values kept vs) (tail_of c.parameters) es in
-    let first : Poured head 3 l m 0 3 = record { size = refl; stand = em; few = omega arith } in
-    let two : Poured (head ++ w) 15 l o 0 (3 + n) = poured-both head w 3 12 15 l m o 0 3 n first f (omega arith) in
-    let y : 0 + (3 + n) ≡ 3 + n = omega arith in
-    let g' : Poured t 1028 o q (0 + (3 + n)) r = rw (y, tail-kept kept vs (tail_of c.parameters) es) g in
-    rw (← append_assoc head w t) (poured-both (head ++ w) t 15 1028 1043 l o q 0 (3 + n) r two g' (omega arith))
-
 -- ---- written, or refused
-
-pub fitting : (kept : Remembered) (c : Command) (es : List ℤ) {t : Bool} → t ≡ is_command kept c es → t ≡ true → fits kept c.parameters es ≡ true
-unfolding is_command
-fitting kept c es e h = and_right (is_kind c.first c.second c.parameters) (fits kept c.parameters es) (sym e ∙ h)
-
-pub tested : {b t v : Bool} → t ≡ b → t ≡ v → b ≡ v
-tested e h = sym e ∙ h
 
 pub all_written : (kept : Remembered) (c : Command) (es : List ℤ) (l o : List ℕ) {m : DelMode} {size most : ℕ} (room : ℕ) → fits kept c.parameters es ≡ true → Poured (spell_command kept c es) 1043 l o 0 size → m ≡ kept.mode → most ≡ most_written m → most ≤ room → answer_of (Ok size) ≡ write_at (spell_command kept c es) room 0
 unfolding write_at room_for answer_of
@@ -260,10 +213,6 @@ pub ruleset turns = (entering-none, entry_ok, entering-end)
 
 pub ruleset lists = (count-few, list_few, list_ok)
 
-pub ruleset tails = (tail-ok, tail-poured)
-
-pub ruleset commands = (command-inside, command-values, command-tail)
+pub ruleset commands = (command-inside, command-values, command-tail, tail-kept)
 
 pub ruleset sendings = (taken_back, front_long, answer_same, standing)
-
-pub ruleset writings = (fitting, tested, outside, accepted, none_changed)

@@ -20,6 +20,7 @@ use refusals::Refusal;
 // No command has more bytes: ESC and two letters, fixed parameters of at most 12, a count of at most 4, and 256 entries of at most 4 each.
 const MOST_BYTES: usize = 1043;
 
+#[tactic(auto, using(crate::proofs::Pouring::few), unfolding(crate::specs::Writing::spell_entry, wire::specs::Sending::poured))]
 fn pour_entry(kept: Remembered, entry: Entry, v: i32, out: &mut [u8], at: usize) -> usize
     requires { is_entry entry v ≡ true }
     ensures { Poured (spell_entry entry kept v) 4 out.old out.new at result }
@@ -30,6 +31,7 @@ fn pour_entry(kept: Remembered, entry: Entry, v: i32, out: &mut [u8], at: usize)
     }
 }
 
+#[tactic(auto, using(crate::proofs::Pouring::joined, crate::proofs::Pouring::read_back))]
 fn pour_two_entries(
     kept: Remembered,
     entry: Entry,
@@ -45,6 +47,7 @@ fn pour_two_entries(
     n + pour_entry(kept, entry, b, out, at + n)
 }
 
+#[tactic(auto, using(crate::proofs::Pouring::joined, crate::proofs::Pouring::read_back))]
 fn pour_three_integers(kept: Remembered, a: i32, b: i32, d: i32, out: &mut [u8], at: usize) -> usize
     requires { ((is_entry Entry.AnInteger a ≡ true) × ((is_entry Entry.AnInteger b ≡ true) × (is_entry Entry.AnInteger d ≡ true))) × (at ≤ 48) }
     ensures { Poured (spell_entry Entry.AnInteger kept a ++ spell_entry Entry.AnInteger kept b ++ spell_entry Entry.AnInteger kept d) 12 out.old out.new at result }
@@ -53,6 +56,7 @@ fn pour_three_integers(kept: Remembered, a: i32, b: i32, d: i32, out: &mut [u8],
     n + pour_entry(kept, Entry::AnInteger, d, out, at + n)
 }
 
+#[tactic(auto, using(crate::proofs::Pouring::few), unfolding(wire::specs::Sending::poured))]
 fn pour_one_point(kept: Remembered, p: Point, out: &mut [u8], at: usize) -> usize
     requires { (inside kept.point ≡ true) × (inside p ≡ true) }
     ensures { Poured (sent kept (spell_point kept.point p)) 6 out.old out.new at result }
@@ -60,7 +64,7 @@ fn pour_one_point(kept: Remembered, p: Point, out: &mut [u8], at: usize) -> usiz
     points::pour_point(kept, p, out, at)
 }
 
-#[tactic(auto, using(crate::proofs::Pouring::inside_after))]
+#[tactic(auto, using(crate::proofs::Pouring::joined))]
 fn pour_two_points(kept: Remembered, p: Point, q: Point, out: &mut [u8], at: usize) -> usize
     requires { ((inside kept.point ≡ true) × ((inside p ≡ true) × (inside q ≡ true))) × (at ≤ 48) }
     ensures { Poured (sent kept (spell_point kept.point p) ++ sent (remember kept p) (spell_point p q)) 12 out.old out.new at result }
@@ -69,6 +73,7 @@ fn pour_two_points(kept: Remembered, p: Point, q: Point, out: &mut [u8], at: usi
     n + pour_one_point(memory::with_point(kept, p), q, out, at + n)
 }
 
+#[tactic(auto, using(crate::proofs::Pouring::valued), unfolding(crate::specs::Writing::spell_values, crate::specs::Writing::spell_entry, refusals::specs::Answers::every))]
 fn pour_values(kept: Remembered, parameters: Parameters, out: &mut [u8], at: usize) -> usize
     requires { ((inside kept.point ≡ true) × (are_values (values_of parameters) ≡ true)) × (at ≤ 48) }
     ensures { Poured (spell_values kept (values_of parameters)) 12 out.old out.new at result }
@@ -130,7 +135,7 @@ fn pour_all(kept: Remembered, entry: Entry, list: &[i32], out: &mut [u8], at: us
     }
 }
 
-#[tactic(auto, using(crate::proofs::Lists::lists))]
+#[tactic(auto, using(crate::proofs::Lists::lists, crate::proofs::Pouring::joined), unfolding(crate::specs::Writing::spell_tail, wire::specs::Sending::poured))]
 fn pour_list(kept: Remembered, entry: Entry, list: &[i32], out: &mut [u8], at: usize) -> usize
     requires { (is_tail (list_of entry) list.now ≡ true) × (at ≤ 58) }
     ensures { Poured (spell_tail kept (list_of entry) list.now) 1028 out.old out.new at result }
@@ -139,7 +144,7 @@ fn pour_list(kept: Remembered, entry: Entry, list: &[i32], out: &mut [u8], at: u
     n + pour_all(kept, entry, list, out, at + n)
 }
 
-#[tactic(auto, using(crate::proofs::Lists::tails))]
+#[tactic(auto, unfolding(crate::specs::Writing::spell_tail, writable::specs::Writable::is_tail))]
 fn pour_tail(
     kept: Remembered,
     parameters: Parameters,
@@ -188,7 +193,7 @@ fn store_head(first: u8, second: u8, out: &mut [u8])
 }
 
 // All bytes of a command that may be written.
-#[tactic(auto, using(crate::proofs::Lists::commands))]
+#[tactic(auto, using(crate::proofs::Lists::commands, crate::proofs::Pouring::joined), unfolding(crate::specs::Writing::spell_command, crate::specs::Writing::spell_parameters))]
 fn pour_command(kept: Remembered, command: Command, list: &[i32], out: &mut [u8]) -> usize
     requires { fits kept command.parameters list.now ≡ true }
     ensures { Poured (spell_command kept command list.now) 1043 out.old out.new 0 result }
@@ -228,7 +233,7 @@ fn send(kept: Remembered, command: Command, list: &[i32], out: &mut [u8]) -> Res
 }
 
 // The command's shortest spelling from the front of `out` on: 8 for what may not be written, then 7.
-#[tactic(auto, using(crate::proofs::Lists::writings))]
+#[tactic(auto, unfolding(refusals::specs::Answers::answer_of, wire::specs::Sending::write_if, wire::specs::Sending::after_write, writable::specs::Writable::is_command))]
 pub fn write_command(
     kept: Remembered,
     command: Command,
@@ -244,7 +249,7 @@ pub fn write_command(
 }
 
 // The same where the letters were found in the table and gave the kind of the parameters: they are sent as they stand.
-#[tactic(auto, using(crate::proofs::Lists::writings))]
+#[tactic(auto, unfolding(refusals::specs::Answers::answer_of, wire::specs::Sending::write_if, wire::specs::Sending::after_write))]
 pub fn write_fitting(
     kept: Remembered,
     command: Command,
