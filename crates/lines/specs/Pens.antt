@@ -4,5 +4,5 @@ use Rattle.lines.specs.declared.Pen.{Pen}
 use Rattle.lines.specs.Pouring.{Put}
 
 -- w was poured with the pen p, which then is q: on the same lent bytes
-abbrev pub Wrote : Pen → List ℕ → Pen → Type 0
-Wrote p w q = (q.out.ghost_name ≡ p.out.ghost_name) × Put p.out.now p.at w q.at q.out.now
+abbrev pub Puts : Pen → List ℕ → Pen → Type 0
+Puts p w q = (q.out.ghost_name ≡ p.out.ghost_name) × Put p.out.now p.at w q.at q.out.now

@@ -27,11 +27,11 @@ struct Pen<'a> {
 // ---- bytes and numbers
 
 impl<'a> Pen<'a> {
-    ghost use Rattle.lines.specs.Pens.{Wrote};
+    ghost use Rattle.lines.specs.Pens.{Puts};
 
     // One byte, stored where there is room, and counted.
     fn put(&mut self, b: u8)
-        ensures { Wrote self.old (b ∷ []) self.new }
+        ensures { Puts self.old (b ∷ []) self.new }
     {
         if self.at < self.out.len() {
             self.out[self.at] = b;
@@ -43,7 +43,7 @@ impl<'a> Pen<'a> {
 
     // The digits of `n`.
     fn decimal(&mut self, n: usize)
-        ensures { Wrote self.old (decimal n) self.new }
+        ensures { Puts self.old (decimal n) self.new }
     {
         if n >= 10 {
             self.decimal(n / 10);
@@ -53,7 +53,7 @@ impl<'a> Pen<'a> {
 
     // A blank and a number that is not negative.
     fn natural(&mut self, n: usize)
-        ensures { Wrote self.old (field (pos n)) self.new }
+        ensures { Puts self.old (field (pos n)) self.new }
     {
         self.put(b' ');
         self.decimal(n);
@@ -61,7 +61,7 @@ impl<'a> Pen<'a> {
 
     // A blank and any number.
     fn number(&mut self, v: i32)
-        ensures { Wrote self.old (field v) self.new }
+        ensures { Puts self.old (field v) self.new }
     {
         self.put(b' ');
         if signs::is_negative(v) {
@@ -72,7 +72,7 @@ impl<'a> Pen<'a> {
 
     // Each number of the list, with a blank before it.
     fn numbers(&mut self, list: &[i32])
-        ensures { Wrote self.old (fields list.now) self.new }
+        ensures { Puts self.old (fields list.now) self.new }
     {
         for v in list {
             self.number(*v);
@@ -83,11 +83,11 @@ impl<'a> Pen<'a> {
 // ---- the parameters
 
 impl<'a> Pen<'a> {
-    ghost use Rattle.lines.specs.Pens.{Wrote};
+    ghost use Rattle.lines.specs.Pens.{Puts};
 
     // The numbers of the fixed values, each with a blank before it.
     fn fixed(&mut self, parameters: Parameters)
-        ensures { Wrote self.old (fields (numbers_of (values_of parameters))) self.new }
+        ensures { Puts self.old (fields (numbers_of (values_of parameters))) self.new }
     {
         let fixed = parameters::numbers_of(parameters);
         self.numbers(&fixed.values[..fixed.len]);
@@ -95,7 +95,7 @@ impl<'a> Pen<'a> {
 
     // The count and the entries, where the parameters have any.
     fn listed(&mut self, parameters: Parameters, count: usize, list: &[i32])
-        ensures { Wrote self.old (listed (tail_of parameters) count list.now) self.new }
+        ensures { Puts self.old (listed (tail_of parameters) count list.now) self.new }
     {
         if parameters::tail_of(parameters).is_some() {
             self.natural(count);
@@ -104,7 +104,7 @@ impl<'a> Pen<'a> {
     }
 
     fn parameters_words(&mut self, parameters: Parameters, count: usize, list: &[i32])
-        ensures { Wrote self.old (parameters_words (values_of parameters) (tail_of parameters) count list.now) self.new }
+        ensures { Puts self.old (parameters_words (values_of parameters) (tail_of parameters) count list.now) self.new }
     {
         self.fixed(parameters);
         self.listed(parameters, count, list);
@@ -120,18 +120,18 @@ fn last_letter(more: bool) -> u8
 }
 
 impl<'a> Pen<'a> {
-    ghost use Rattle.lines.specs.Pens.{Wrote};
+    ghost use Rattle.lines.specs.Pens.{Puts};
 
     // A letter and where the item starts.
     fn opening(&mut self, letter: u8, start: usize)
-        ensures { Wrote self.old (opening letter start) self.new }
+        ensures { Puts self.old (opening letter start) self.new }
     {
         self.put(letter);
         self.natural(start);
     }
 
     fn text_line(&mut self, start: usize, b: u8)
-        ensures { Wrote self.old (text_line start b) self.new }
+        ensures { Puts self.old (text_line start b) self.new }
     {
         self.opening(b'T', start);
         self.natural(b as usize);
@@ -139,7 +139,7 @@ impl<'a> Pen<'a> {
     }
 
     fn del_line(&mut self, start: usize)
-        ensures { Wrote self.old (del_line start) self.new }
+        ensures { Puts self.old (del_line start) self.new }
     {
         self.opening(b'D', start);
         self.put(b'\n');
@@ -147,7 +147,7 @@ impl<'a> Pen<'a> {
 
     // A blank and the two op letters.
     fn letters(&mut self, first: u8, second: u8)
-        ensures { Wrote self.old (letters first second) self.new }
+        ensures { Puts self.old (letters first second) self.new }
     {
         self.put(b' ');
         self.put(first);
@@ -155,14 +155,14 @@ impl<'a> Pen<'a> {
     }
 
     fn command_head(&mut self, start: usize, first: u8, second: u8)
-        ensures { Wrote self.old (command_head start first second) self.new }
+        ensures { Puts self.old (command_head start first second) self.new }
     {
         self.opening(b'C', start);
         self.letters(first, second);
     }
 
     fn command_line(&mut self, taken: TakenCommand, start: usize, list: &[i32])
-        ensures { Wrote self.old (command_line (tell_taken taken) start list.now) self.new }
+        ensures { Puts self.old (command_line (tell_taken taken) start list.now) self.new }
     {
         let command = taken.command;
         self.command_head(start, command.first, command.second);
@@ -171,14 +171,14 @@ impl<'a> Pen<'a> {
     }
 
     fn pair(&mut self, a: usize, b: usize)
-        ensures { Wrote self.old (pair a b) self.new }
+        ensures { Puts self.old (pair a b) self.new }
     {
         self.natural(a);
         self.natural(b);
     }
 
     fn refused_line(&mut self, start: usize, number: usize, place: usize)
-        ensures { Wrote self.old (refused_line start number place) self.new }
+        ensures { Puts self.old (refused_line start number place) self.new }
     {
         self.opening(b'R', start);
         self.pair(number, place);
@@ -187,7 +187,7 @@ impl<'a> Pen<'a> {
 
     // The line of the item that starts at `start`, with its newline. Where there is no item the line is empty.
     fn line(&mut self, item: Item, start: usize, list: &[i32])
-        ensures { Wrote self.old (line_of (item_of item) start list.now) self.new }
+        ensures { Puts self.old (line_of (item_of item) start list.now) self.new }
     {
         match item {
             Item::Nothing | Item::Refused(_) => {}
@@ -203,7 +203,7 @@ impl<'a> Pen<'a> {
 
     // "Last: E and the bytes read, or M 4096 if more input follows": `E n` or `M n`, with its newline.
     fn last_line(&mut self, more: bool, n: usize)
-        ensures { Wrote self.old (last_line more n) self.new }
+        ensures { Puts self.old (last_line more n) self.new }
     {
         self.opening(last_letter(more), n);
         self.put(b'\n');
