@@ -1,5 +1,6 @@
 // The stream's calls for programs in other languages (include/ardhrumesh.h): the next item, and writing a command. The answer is a number,
-// what goes with it is written to lent slots, and what is remembered is one lent array: the point's x and y, and the DEL mode, 0 or 1.
+// what goes with it is written to lent slots, and what is remembered is one lent array: the point's x and y, and the DEL mode, 0 or 1. Kinds and
+// refusals are numbers in the C interface.
 #![tactic(auto)]
 
 ghost use Rattle.std.specs.Prelude.{◌≡◌, length};

@@ -12,6 +12,7 @@ use parameters::{Entry, Parameters};
 use ranges::MOST_ENTRIES;
 use table::Kind;
 
+// The calls for other languages number the kinds so.
 pub fn kind_number(kind: Kind) -> u8
     ensures { result ≡ kind_number (kind_meant kind) }
 {
@@ -89,6 +90,7 @@ fn three_integers_fit(a: i32, b: i32, d: i32) -> bool
     is_entry(Entry::AnInteger, a) & two_entries_fit(Entry::AnInteger, b, d)
 }
 
+// The kinds with one integer have an arm each: the check gives no proof of an arm that binds the integer of several.
 #[tactic(auto, using(refusals::proofs::Cases::and_true), unfolding(refusals::specs::Answers::every))]
 fn values_fit(parameters: Parameters) -> bool
     ensures { result ≡ are_values (values_of parameters) }

@@ -20,6 +20,8 @@ use refusals::Refusal;
 // No command has more bytes: ESC and two letters, fixed parameters of at most 12, a count of at most 4, and 256 entries of at most 4 each.
 const MOST_BYTES: usize = 1043;
 
+// What pours takes `kept`, `out` and `at` by themselves: `at` is another at each call, so a struct of them, made anew for each, would be no plainer.
+
 #[tactic(auto, using(crate::proofs::Pouring::few), unfolding(crate::specs::Writing::spell_entry, wire::specs::Sending::poured))]
 fn pour_entry(kept: Remembered, entry: Entry, v: i32, out: &mut [u8], at: usize) -> usize
     requires { is_entry entry v ≡ true }
@@ -73,6 +75,7 @@ fn pour_two_points(kept: Remembered, p: Point, q: Point, out: &mut [u8], at: usi
     n + pour_one_point(memory::with_point(kept, p), q, out, at + n)
 }
 
+// The kinds with one integer have an arm each: the check gives no proof of an arm that binds the integer of several.
 #[tactic(auto, using(crate::proofs::Pouring::valued), unfolding(crate::specs::Writing::spell_values, crate::specs::Writing::spell_entry, refusals::specs::Answers::every))]
 fn pour_values(kept: Remembered, parameters: Parameters, out: &mut [u8], at: usize) -> usize
     requires { ((inside kept.point ≡ true) × (are_values (values_of parameters) ≡ true)) × (at ≤ 48) }
@@ -248,7 +251,8 @@ pub fn write_command(
     send(kept, command, list, out)
 }
 
-// The same where the letters were found in the table and gave the kind of the parameters: they are sent as they stand.
+// The same where the letters were found in the table and gave the kind of the parameters: they are sent as they stand. The two differ in the test alone,
+// and one function that takes it would be no plainer.
 #[tactic(auto, unfolding(refusals::specs::Answers::answer_of, wire::specs::Sending::write_if, wire::specs::Sending::after_write))]
 pub fn write_fitting(
     kept: Remembered,
