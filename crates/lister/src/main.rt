@@ -2,41 +2,15 @@
 // only reads and writes.
 #![tactic(auto)]
 
-ghost use Rattle.std.specs.Prelude.{◌<◌, ◌≤◌, length, take, IfOk};
-ghost use Rattle.std.specs.Io.KnownBytes.{Consumes, IsAtEnd};
-
+use refusals::Refusal;
 use std::io;
-use std::io::{Read, Write};
-use wire::Written;
+use std::io::Write;
 
-// Reads until `buf` is full or the input ends, and returns how many bytes it put at the start of `buf`. A pipe may give its bytes in pieces.
-fn read_full<R: Read>(reader: &mut R, buf: &mut [u8]) -> io::Result<usize>
-    ensures within { IfOk result (λ n. n ≤ length buf.new) }
-    ensures bytes { IfOk result (λ n. Consumes (R.remaining reader.old) (R.remaining reader.new) (take n buf.new)) }
-    ensures whole { IfOk result (λ n. n < length buf.new → IsAtEnd (R.remaining reader.new)) }
-{
-    let mut done = 0;
-    while done < buf.len() {
-        let n = reader.read(&mut buf[done..])?;
-        if n == 0 {
-            break;
-        }
-        done += n;
-    }
-    Ok(done)
-}
-
-// The listing in one write; false where there is none.
-fn print<W: Write>(writer: &mut W, written: Written, out: &[u8]) -> io::Result<bool> {
-    match written {
-        Written::Next(n) => {
-            if n <= out.len() {
-                writer.write_all(&out[..n])?;
-                return Ok(true);
-            }
-            Ok(false)
-        }
-        Written::Refused(_) => Ok(false),
+// The listing in one write.
+fn print<W: Write>(writer: &mut W, written: Result<usize, Refusal>, out: &[u8]) -> io::Result<()> {
+    match written.ok().and_then(|n| out.get(..n)) {
+        Some(listing) => writer.write_all(listing),
+        None => Err(io::Error::other("there is no room for the listing")),
     }
 }
 
@@ -45,12 +19,11 @@ fn print<W: Write>(writer: &mut W, written: Written, out: &[u8]) -> io::Result<b
 fn main(rt: HostRuntime) -> io::Result<()> {
     let mut input = [0; 4097];
     let mut out = [0; 65536];
-    let n = read_full(&mut rt.stdin(), &mut input)?;
+    let n = input::read_full(&mut rt.stdin(), &mut input)?;
     let written = listing::listing(&input[..n], &mut out);
     let printed = print(&mut rt.stdout(), written, &out);
-    if !matches!(printed, Ok(true)) {
+    if printed.is_err() {
         rt.eprintln("lister: the listing could not be written")?;
     }
-    printed?;
-    Ok(())
+    printed
 }

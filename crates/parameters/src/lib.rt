@@ -69,7 +69,7 @@ pub struct TakenParameters {
     pub kept: Remembered,
 }
 
-// Two integers or characters, and where reading goes on.
+// Two integers or characters, and where reading goes on. It is public since the laws of whole commands speak of it.
 #[derive(Clone, Copy)]
 pub struct TwoEntries {
     pub one: i32,

@@ -24,9 +24,9 @@ unfolding place
 place-lt {w} {h} {beam} v = digits_lt {q = h - 1 - beam.y} {m = h} {r = beam.x} {c = w} (omega arith) (omega arith)
 
 -- the beam's index, as the code works it out, is below the surface's length, which is small
-pub on-surface : {w h : ℕ} {beam : Beam} {n : ℕ} → Ready w h beam n → ((h - 1 - beam.y) * w + beam.x < n) × (n ≤ 262144)
+pub place_within : {w h : ℕ} {beam : Beam} {n : ℕ} → Ready w h beam n → ((h - 1 - beam.y) * w + beam.x < n) × (n ≤ 262144)
 unfolding place
-on-surface {w} {h} {beam} {n} r =
+place_within {w} {h} {beam} {n} r =
     let l : (h - 1 - beam.y) * w + beam.x < h * w = place-lt r.inside in
     let a : h * w ≤ 262144 = area_le r.narrow r.short in
     omega arith

@@ -23,6 +23,7 @@ pub struct Drawn {
 // ---- laying
 
 // One colour at the beam's place, and the beam one place on.
+#[tactic(auto, using(crate::proofs::Laying::place_within))]
 fn lay_pixel(surface: &mut [u8], size: Size, beam: Beam, colour: u8) -> Beam
     requires { Ready size.w size.h beam (length surface.old) }
     ensures { MarksLaid size.w size.h (ink colour ∷ []) beam surface.old result surface.new }
@@ -75,7 +76,7 @@ fn row_end(beam: Beam) -> Beam
 }
 
 // One raster character where `n` pixels are still to be named: "32 plus six bits", "6/bits to a character"; or an end-of-row.
-#[tactic(auto, using(crate::proofs::Going::character_room, crate::proofs::Going::character_laid, crate::proofs::Going::end_laid))]
+#[tactic(auto, using(crate::proofs::Going::character_room))]
 fn lay_character(surface: &mut [u8], size: Size, beam: Beam, n: usize, ch: usize) -> Beam
     requires ready { Ready size.w size.h beam (length surface.old) }
     requires bits_nonzero { (0 < beam.bits) × ((beam.bits ≤ 6) × (32 ≤ ch)) }

@@ -4,7 +4,7 @@ use mathlib.Core.Path.{◌≡◌, refl, sym, ◌∙◌, ap}
 use mathlib.Core.List.{List, [], ◌∷◌}
 use lib.ListN.{length}
 use lib.IntN.{ℤ}
-use Rattle.refusals.specs.declared.Refusal.{Refusal}
+use Rattle.refusals.specs.declared.RefusedAt.{RefusedAt}
 use Rattle.refusals.specs.Refusals.{number_of}
 use Rattle.memory.specs.declared.Remembered.{Remembered}
 use Rattle.table.specs.declared.Kind.{Kind}
@@ -77,7 +77,7 @@ module _ (before : List ℕ) {i : Item} where
   unfolding item_of item_number item_fields item_values remembered_after
   refused-command_hands e j = rw e (record { number_is = j; fields-are = refl; values-are = refl; kept-is = refl })
 
-  pub refused-call_hands : {f : Refusal} {p n : ℕ} → i ≡ Item.Refused f p → n ≡ number_of f → Hands before i n (4 ∷ 0 ∷ p ∷ 0 ∷ 0 ∷ 0 ∷ 0 ∷ []) no_values before
+  pub refused-call_hands : {f : RefusedAt} {n : ℕ} → i ≡ Item.Refused f → n ≡ number_of f.refusal → Hands before i n (4 ∷ 0 ∷ f.place ∷ 0 ∷ 0 ∷ 0 ∷ 0 ∷ []) no_values before
   unfolding item_of item_number item_fields item_values remembered_after
   refused-call_hands e j = rw e (record { number_is = j; fields-are = refl; values-are = refl; kept-is = refl })
 

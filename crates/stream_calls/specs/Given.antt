@@ -1,7 +1,8 @@
 -- A command to be written as the header's slots give it: letters, and its fixed parameters in values[4] by the kind of the letters.
-use Rattle.std.specs.Prelude.{ℕ, ◌≡◌, List, length, get_or, ℤ, pos}
+use Rattle.std.specs.Prelude.{ℕ, ◌≡◌, List, length, get_or, ℤ, pos, Result}
 use Rattle.memory.specs.declared.Remembered.{Remembered}
-use Rattle.refusals.specs.Answers.{Answer, number, value_or}
+use Rattle.refusals.specs.declared.Refusal.{Refusal}
+use Rattle.refusals.specs.Answers.{Answer, done, then, answer_of, number, value_or}
 use Rattle.table.specs.Table.{ParameterKind, Tabled, in_table, not_in_table, kind_of}
 use Rattle.table.specs.Table as K
 use Rattle.coordinates.specs.Coordinates.{point_given}
@@ -11,7 +12,7 @@ use Rattle.parameters.specs.Shapes.{values_of}
 use Rattle.commands.specs.declared.Command.{Command}
 use Rattle.commands.specs.Behind.{after_command}
 use Rattle.writing.specs.Writing.{spell_command, write_command}
-use Rattle.wire.specs.Sending.{written_of, after_write}
+use Rattle.wire.specs.Sending.{after_write}
 use Rattle.stream_calls.specs.declared.Sent.{Sent}
 use Rattle.coordinates.specs.Remembering.{slots_of, kept_in}
 
@@ -44,17 +45,16 @@ command_given first second vs = record { first = first; second = second; paramet
 abbrev pub kept_behind : Remembered → Command → Remembered
 kept_behind kept c = after_command kept c.first c.second (values_of c.parameters)
 
-unfoldable pub kept_after : Remembered → Command → Answer ℕ → Remembered
-kept_after kept c a = value_or kept (λ (n : ℕ). kept_behind kept c) a
-
 unfoldable pub slots_after : List ℕ → Command → Answer ℕ → List ℕ
 slots_after before c a = value_or before (λ (n : ℕ). slots_of (kept_behind (kept_in before) c)) a
 
--- ---- what writing leaves: the answer a, what is remembered behind it, and the lent bytes
+-- ---- what writing leaves: how many bytes there are and what is remembered behind them, or the refusal; and the lent bytes
 
-pub record Writes (kept : Remembered) (c : Command) (es : List ℤ) (out : List ℕ) (a : Answer ℕ) (r : Sent) (left : List ℕ) : Type 0 where
-  pub answered : written_of r.answer ≡ a
-  pub remembered : r.kept ≡ kept_after kept c a
+unfoldable pub sent_behind : Remembered → Command → Answer ℕ → Answer Sent
+sent_behind kept c a = then a (λ n. done (record { size = n; kept = kept_behind kept c }))
+
+pub record Writes (kept : Remembered) (c : Command) (es : List ℤ) (out : List ℕ) (a : Answer ℕ) (r : Result Sent Refusal) (left : List ℕ) : Type 0 where
+  pub answered : answer_of r ≡ sent_behind kept c a
   pub stands : left ≡ after_write a (spell_command kept c es) out 0
 
 -- and ardh_write_command: from the three numbers of what was remembered before

@@ -17,8 +17,7 @@ use memory::Remembered;
 use parameters::{Parameters, Real};
 use refusals::Refusal;
 use stream::Item;
-use table::{Found, Kind};
-use wire::Written;
+use table::Kind;
 
 // "0 means done"
 const DONE: u8 = 0;
@@ -29,18 +28,19 @@ const DONE: u8 = 0;
 fn command_fields(taken: TakenCommand) -> [usize; 7]
     ensures { result ≡ command_fields taken.command.first taken.command.second (kind_number (kind_for taken.command.parameters)) taken.count taken.next }
 {
-    let command = taken.command;
-    let first = command.first;
-    let second = command.second;
-    let parameters = command.parameters;
+    let Command {
+        first,
+        second,
+        parameters,
+    } = taken.command;
     let kind = writable::kind_number(writable::kind_of_parameters(parameters));
     [
         2,
         taken.next,
         0,
-        first as usize,
-        second as usize,
-        kind as usize,
+        usize::from(first),
+        usize::from(second),
+        usize::from(kind),
         taken.count,
     ]
 }
@@ -48,8 +48,7 @@ fn command_fields(taken: TakenCommand) -> [usize; 7]
 fn four_of(parameters: Parameters) -> [i32; 4]
     ensures { result ≡ four_of (values_of parameters) }
 {
-    let numbers = parameters::numbers_of(parameters);
-    numbers.values
+    parameters::numbers_of(parameters).values
 }
 
 // Only a command that was read changes what is remembered.
@@ -66,52 +65,46 @@ pub fn ardh_next_item(
     let kept = coordinates::kept_in(remembered);
     match stream::read_item(kept, bytes, start, list) {
         Item::Nothing => {
-            *item = [0, 0, 0, 0, 0, 0, 0];
-            *values = [0, 0, 0, 0];
+            *item = [0; 7];
+            *values = [0; 4];
             DONE
         }
         Item::Text(text) => {
-            *item = [1, text.next, 0, text.byte as usize, 0, 0, 0];
-            *values = [0, 0, 0, 0];
+            *item = [1, text.next, 0, usize::from(text.byte), 0, 0, 0];
+            *values = [0; 4];
             DONE
         }
         Item::Del(del) => {
             *item = [5, del.next, 0, 0, 0, 0, 0];
-            *values = [0, 0, 0, 0];
+            *values = [0; 4];
             DONE
         }
         Item::Command(taken) => {
-            let command = taken.command;
-            let parameters = command.parameters;
-            let after = taken.kept;
             *item = command_fields(taken);
-            *values = four_of(parameters);
-            *remembered = coordinates::slots_of(after);
+            *values = four_of(taken.command.parameters);
+            *remembered = coordinates::slots_of(taken.kept);
             DONE
         }
         Item::RefusedCommand(refused) => {
-            let refusal = refused.refusal;
             *item = [3, refused.next, refused.place, 0, 0, 0, 0];
-            *values = [0, 0, 0, 0];
-            refusals::number(refusal)
+            *values = [0; 4];
+            refused.refusal.number()
         }
-        Item::Refused(refusal, place) => {
-            *item = [4, 0, place, 0, 0, 0, 0];
-            *values = [0, 0, 0, 0];
-            refusals::number(refusal)
+        Item::Refused(refused) => {
+            *item = [4, 0, refused.place, 0, 0, 0, 0];
+            *values = [0; 4];
+            refused.refusal.number()
         }
     }
 }
 
 // ---- writing a command
 
+#[tactic(auto, using(crate::proofs::Writing::point_of), unfolding(crate::specs::Given::of_kind))]
 fn of_kind(kind: Kind, v: &[i32; 4]) -> Parameters
     ensures { result ≡ of_kind (kind_meant kind) v.now }
 {
-    let a = v[0];
-    let b = v[1];
-    let c = v[2];
-    let d = v[3];
+    let [a, b, c, d] = *v;
     match kind {
         Kind::OneInteger => Parameters::OneInteger(a),
         Kind::TwoIntegers => Parameters::TwoIntegers(a, b),
@@ -121,13 +114,10 @@ fn of_kind(kind: Kind, v: &[i32; 4]) -> Parameters
             coordinates::point_given(a, b),
             coordinates::point_given(c, d),
         ),
-        Kind::AReal => {
-            let real = Real {
-                mantissa: a,
-                exponent: b,
-            };
-            Parameters::AReal(real)
-        }
+        Kind::AReal => Parameters::AReal(Real {
+            mantissa: a,
+            exponent: b,
+        }),
         Kind::AString => Parameters::AString,
         Kind::AnArray => Parameters::AnArray,
         Kind::IntegerThenArray => Parameters::IntegerThenArray(a),
@@ -138,56 +128,46 @@ fn of_kind(kind: Kind, v: &[i32; 4]) -> Parameters
 
 // What is remembered behind the values of a kind. It is made of the numbers: fetched from the parameters, where a point lies across the places
 // of integers, it would wait for them.
+#[tactic(auto, using(crate::proofs::Writing::point_of), unfolding(crate::specs::Given::of_kind, parameters::specs::Behind::after_values))]
 fn kept_behind(kept: Remembered, kind: Kind, v: &[i32; 4]) -> Remembered
     ensures { result ≡ after_values kept (values_of (of_kind (kind_meant kind) v.now)) }
 {
-    let a = v[0];
-    let b = v[1];
-    let c = v[2];
-    let d = v[3];
+    let [a, b, c, d] = *v;
     match kind {
         Kind::OnePoint => memory::with_point(kept, coordinates::point_given(a, b)),
         Kind::TwoPoints => memory::with_point(kept, coordinates::point_given(c, d)),
-        Kind::OneInteger => kept,
-        Kind::TwoIntegers => kept,
-        Kind::ThreeIntegers => kept,
-        Kind::AReal => kept,
-        Kind::AString => kept,
-        Kind::AnArray => kept,
-        Kind::IntegerThenArray => kept,
-        Kind::IntegerThenString => kept,
-        Kind::TwoCharacters => kept,
+        Kind::OneInteger
+        | Kind::TwoIntegers
+        | Kind::ThreeIntegers
+        | Kind::AReal
+        | Kind::AString
+        | Kind::AnArray
+        | Kind::IntegerThenArray
+        | Kind::IntegerThenString
+        | Kind::TwoCharacters => kept,
     }
 }
 
-// A writing's answer, and what is remembered behind it.
+// How many bytes were written, and what is remembered behind them.
 #[derive(Clone, Copy)]
 struct Sent {
-    answer: Written,
+    size: usize,
     kept: Remembered,
 }
 
-// Writes a command whose letters are known to have such parameters; and what is remembered then, which is `behind` where it was written.
+// Writes a command whose letters are known to have such parameters; `behind` is what is remembered then.
 fn write_known(
     kept: Remembered,
     command: Command,
     behind: Remembered,
     list: &[i32],
     out: &mut [u8],
-) -> Sent
+) -> Result<Sent, Refusal>
     requires { behind ≡ kept_behind kept command }
     ensures { Writes kept command list.now out.old (write_fitting kept command list.now (length out.old)) result out.new }
 {
-    match writing::write_fitting(kept, command, list, out) {
-        Written::Next(n) => Sent {
-            answer: Written::Next(n),
-            kept: behind,
-        },
-        Written::Refused(e) => Sent {
-            answer: Written::Refused(e),
-            kept: kept,
-        },
-    }
+    let size = writing::write_fitting(kept, command, list, out)?;
+    Ok(Sent { size, kept: behind })
 }
 
 // Writes the command that letters and four numbers stand for. The table is looked at once.
@@ -198,26 +178,21 @@ fn write_given(
     v: &[i32; 4],
     list: &[i32],
     out: &mut [u8],
-) -> Sent
+) -> Result<Sent, Refusal>
     ensures { Writes kept (command_given first second v.now) list.now out.old (write_command kept (command_given first second v.now) list.now (length out.old)) result out.new }
 {
-    match table::kind_of(first, second) {
-        Found::Is(kind) => {
-            let parameters = of_kind(kind, v);
-            let command = Command {
-                first: first,
-                second: second,
-                parameters: parameters,
-            };
-            let left = kept_behind(kept, kind, v);
-            let behind = commands::after_parameters(left, first, second, parameters);
-            write_known(kept, command, behind, list, out)
-        }
-        Found::NoKind => Sent {
-            answer: Written::Refused(Refusal::NotValid),
-            kept: kept,
-        },
-    }
+    let Some(kind) = table::kind_of(first, second) else {
+        return Err(Refusal::NotValid);
+    };
+    let parameters = of_kind(kind, v);
+    let left = kept_behind(kept, kind, v);
+    let behind = commands::after_parameters(left, first, second, parameters);
+    let command = Command {
+        first,
+        second,
+        parameters,
+    };
+    write_known(kept, command, behind, list, out)
 }
 
 // Only a command that was written changes what is remembered.
@@ -233,18 +208,15 @@ pub fn ardh_write_command(
     ensures { WrittenCommand remembered.old (command_given first second values.now) list.now out.old result written.new remembered.new out.new }
 {
     let kept = coordinates::kept_in(remembered);
-    let sent = write_given(kept, first, second, values, list, out);
-    let behind = sent.kept;
-    let answer = sent.answer;
-    match answer {
-        Written::Next(n) => {
-            *remembered = coordinates::slots_of(behind);
-            *written = n;
+    match write_given(kept, first, second, values, list, out) {
+        Ok(sent) => {
+            *remembered = coordinates::slots_of(sent.kept);
+            *written = sent.size;
             DONE
         }
-        Written::Refused(e) => {
+        Err(e) => {
             *written = 0;
-            refusals::number(e)
+            e.number()
         }
     }
 }

@@ -4,28 +4,16 @@ pub const START: u32 = 1;
 
 // "Taking in a number n makes the digest h into (h * 65599 + n) mod 4294967291."
 fn number(h: u32, n: u32) -> u32 {
-    ((h as u64 * 65599 + n as u64) % 4294967291) as u32
+    ((u64::from(h) * 65599 + u64::from(n)) % 4294967291) as u32
 }
 
 // "1 if it is negative and 0 if not, then its magnitude"
 pub fn signed(h: u32, v: i32) -> u32 {
-    let mag = signs::magnitude(v);
-    if signs::is_negative(v) {
-        return number(number(h, 1), mag);
-    }
-    number(number(h, 0), mag)
+    let sign = u32::from(signs::is_negative(v));
+    number(number(h, sign), signs::magnitude(v))
 }
 
-fn byte(h: u32, b: u8) -> u32 {
-    number(h, b as u32)
-}
-
+// "Bytes are taken in one by one, from the front."
 pub fn bytes(h: u32, s: &[u8]) -> u32 {
-    let mut after = h;
-    let mut i = 0;
-    while i < s.len() {
-        after = byte(after, s[i]);
-        i += 1;
-    }
-    after
+    s.iter().fold(h, |h, b| number(h, u32::from(*b)))
 }

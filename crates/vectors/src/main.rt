@@ -2,7 +2,6 @@
 #![tactic(auto)]
 
 mod digest;
-mod input;
 mod print;
 mod table;
 mod values;
@@ -11,10 +10,7 @@ use std::io;
 
 // The first `n` bytes, or all where there are fewer.
 pub fn front(s: &[u8], n: usize) -> &[u8] {
-    if n <= s.len() {
-        return &s[..n];
-    }
-    s
+    s.get(..n).unwrap_or(s)
 }
 
 fn main(rt: HostRuntime) -> io::Result<()> {
