@@ -18,15 +18,15 @@ use Rattle.signs.specs.Signs.{is_negative}
 use Rattle.refusals.proofs.Cases.{zero_one}
 use Rattle.lines.specs.Decimals.{digits_of, decimal, field, fields}
 use Rattle.lines.specs.Pouring.{Put}
-use Rattle.lines.proofs.Pours.{poured-none, poured_both, poured-long}
+use Rattle.lines.proofs.Pours.{poured_none, poured_both}
 
 -- fuel enough is fuel enough
-abbrev with-last : ℕ → List ℕ → List ℕ
-with-last n w = w ++ ((48 + n % 10) ∷ [])
+abbrev with_last : ℕ → List ℕ → List ℕ
+with_last n w = w ++ ((48 + n % 10) ∷ [])
 
-same_from : (n : ℕ) (v w : List ℕ) (b : Bool) → (b ≡ false → v ≡ w) → pick b ((48 + n) ∷ []) (with-last n v) ≡ pick b ((48 + n) ∷ []) (with-last n w)
+same_from : (n : ℕ) (v w : List ℕ) (b : Bool) → (b ≡ false → v ≡ w) → pick b ((48 + n) ∷ []) (with_last n v) ≡ pick b ((48 + n) ∷ []) (with_last n w)
 same_from n v w true h = refl
-same_from n v w false h = ap (with-last n) (h refl)
+same_from n v w false h = ap (with_last n) (h refl)
 
 tenth : (j n : ℕ) → n < suc j → ltb n 10 ≡ false → n / 10 < j
 tenth j n p e = let h : 10 ≤ n = ltb-false n 10 e in omega arith
@@ -38,33 +38,30 @@ same_digits (suc j) (suc k) n p q =
 same_digits zero k n p q = absurd (zero_one (omega arith))
 same_digits (suc j) zero n p q = absurd (zero_one (omega arith))
 
-decimal-one : (n : ℕ) → n < 10 → decimal n ≡ (48 + n % 10) ∷ []
+decimal_one : (n : ℕ) → n < 10 → decimal n ≡ (48 + n % 10) ∷ []
 unfolding decimal digits_of
-decimal-one n h = let e : n % 10 ≡ n = omega arith in rw (e, lt-ltb n 10 h)
+decimal_one n h = let e : n % 10 ≡ n = omega arith in rw (e, lt-ltb n 10 h)
 
-decimal-more : (n : ℕ) → 10 ≤ n → decimal n ≡ decimal (n / 10) ++ ((48 + n % 10) ∷ [])
+decimal_more : (n : ℕ) → 10 ≤ n → decimal n ≡ decimal (n / 10) ++ ((48 + n % 10) ∷ [])
 unfolding decimal digits_of
-decimal-more n h =
+decimal_more n h =
     let e : digits_of n (n / 10) ≡ digits_of (suc (n / 10)) (n / 10) = same_digits n (suc (n / 10)) (n / 10) (omega arith) (omega arith) in
-    rw (le-ltb n 10 h) (ap (with-last n) e)
+    rw (le-ltb n 10 h) (ap (with_last n) e)
 
-pub poured-digit : {l o : List ℕ} {at r : ℕ} (n : ℕ) → n < 10 → Put l at ((48 + n % 10) ∷ []) r o → Put l at (decimal n) r o
-poured-digit n h p = rw (decimal-one n h) p
+pub poured_digit : {l o : List ℕ} {at r : ℕ} (n : ℕ) → n < 10 → Put l at ((48 + n % 10) ∷ []) r o → Put l at (decimal n) r o
+poured_digit n h p = rw (decimal_one n h) p
 
-pub poured-digits : {l m o : List ℕ} {at k r : ℕ} (n : ℕ) → 10 ≤ n → Put m k ((48 + n % 10) ∷ []) r o → Put l at (decimal (n / 10)) k m → Put l at (decimal n) r o
-poured-digits n h q p = rw (decimal-more n h) (poured_both q p)
+pub poured_digits : {l m o : List ℕ} {at k r : ℕ} (n : ℕ) → 10 ≤ n → Put m k ((48 + n % 10) ∷ []) r o → Put l at (decimal (n / 10)) k m → Put l at (decimal n) r o
+poured_digits n h q p = rw (decimal_more n h) (poured_both q p)
 
-pub ruleset digits = (poured-digit, poured-digits, poured-long)
+pub ruleset digits = (poured_digit, poured_digits)
 
 -- ---- a number behind a blank
 
 module _ {l m o : List ℕ} {at k r : ℕ} (blank : Put l at (32 ∷ []) k m) where
-  pub poured-natural : (n : ℕ) → Put m k (decimal n) r o → Put l at (field (pos n)) r o
-  unfolding field
-  poured-natural n q = poured_both q blank
-
   natural : (v : ℤ) → is_negative v ≡ false → Put m k (decimal (nat_abs v)) r o → Put l at (field v) r o
-  natural (pos n) e q = poured-natural n q
+  unfolding field
+  natural (pos n) e q = poured_both q blank
   natural (negsuc n) e q = let z : ◌≡◌ {A = ℕ} 0 1 = cc in absurd (zero_one z)
 
   negative : {h : List ℕ} {j : ℕ} (v : ℤ) → is_negative v ≡ true → Put m k (45 ∷ []) j h → Put h j (decimal (nat_abs v)) r o → Put l at (field v) r o
@@ -73,19 +70,19 @@ module _ {l m o : List ℕ} {at k r : ℕ} (blank : Put l at (32 ∷ []) k m) wh
   negative (negsuc n) e p q = poured_both q (poured_both p blank)
 
 module _ (v : ℤ) (f : SFits w32 v) {s : ℕ} {t : Bool} (es : s ≡ nat_abs (to_z w32 (of_z w32 v))) (et : t ≡ is_negative (to_z w32 (of_z w32 v))) where
-  pub poured-plain : {l m o : List ℕ} {at k r : ℕ} → t ≡ false → Put l at (32 ∷ []) k m → Put m k (decimal s) r o → Put l at (field v) r o
-  poured-plain e b q =
+  pub poured_plain : {l m o : List ℕ} {at k r : ℕ} → t ≡ false → Put l at (32 ∷ []) k m → Put m k (decimal s) r o → Put l at (field v) r o
+  poured_plain e b q =
       let size : s ≡ nat_abs v = rw (to_z-of_z f) at es in
       let sign : t ≡ is_negative v = rw (to_z-of_z f) at et in
       natural b v (sym sign ∙ e) (rw size at q)
 
-  pub poured-minus : {l m h o : List ℕ} {at k j r : ℕ} → t ≡ true → Put l at (32 ∷ []) k m → Put m k (45 ∷ []) j h → Put h j (decimal s) r o → Put l at (field v) r o
-  poured-minus e b p q =
+  pub poured_minus : {l m h o : List ℕ} {at k j r : ℕ} → t ≡ true → Put l at (32 ∷ []) k m → Put m k (45 ∷ []) j h → Put h j (decimal s) r o → Put l at (field v) r o
+  poured_minus e b p q =
       let size : s ≡ nat_abs v = rw (to_z-of_z f) at es in
       let sign : t ≡ is_negative v = rw (to_z-of_z f) at et in
       negative b v (sym sign ∙ e) p (rw size at q)
 
-pub ruleset singles = (poured-natural, poured-plain, poured-minus, poured-long)
+pub ruleset singles = (poured_plain, poured_minus)
 
 -- ---- many numbers: those passed have been poured
 
@@ -93,9 +90,9 @@ pub record Pouring (list : List ℤ) (l₀ : List ℕ) (at : ℕ) (l : List ℕ)
   pub upto : i ≤ length list
   pub passed : Put l₀ at (fields (take i list)) n l
 
-pub pouring-none : (list : List ℤ) (l : List ℕ) (at : ℕ) → length l * 1 < 2 ^ 63 → Pouring list l at l at 0
+pub pouring_none : (list : List ℤ) (l : List ℕ) (at : ℕ) → length l * 1 < 2 ^ 63 → Pouring list l at l at 0
 unfolding fields
-pouring-none list l at h = record { upto = omega arith; passed = poured-none l at h }
+pouring_none list l at h = record { upto = omega arith; passed = poured_none l at h }
 
 one_more : (vs : List ℤ) (v : ℤ) → fields (vs ++ (v ∷ [])) ≡ fields vs ++ field v
 unfolding fields
@@ -111,10 +108,7 @@ pouring_more list i x f h e p =
 pub pouring_next : (list : List ℤ) {l₀ l o : List ℕ} {at n k : ℕ} (i : ℕ) → Pouring list l₀ at l n i → i < length list → SFits w32 (get_or list i (pos 0)) → Put l n (field (to_z w32 (of_z w32 (get_or list i (pos 0))))) k o → Pouring list l₀ at o k (i + 1)
 pouring_next list i f h fits p = pouring_more list i _ f h (to_z-of_z fits) p
 
-pub pouring-end : (list : List ℤ) {l₀ l : List ℕ} {at n : ℕ} (i : ℕ) → Pouring list l₀ at l n i → length list ≤ i → Put l₀ at (fields list) n l
-pouring-end list i f h = let d : take i list ≡ list = take_all i list h in rw d at f.passed
+pub pouring_end : (list : List ℤ) {l₀ l : List ℕ} {at n : ℕ} (i : ℕ) → Pouring list l₀ at l n i → length list ≤ i → Put l₀ at (fields list) n l
+pouring_end list i f h = let d : take i list ≡ list = take_all i list h in rw d at f.passed
 
-pub pouring-long : {list : List ℤ} {l₀ l : List ℕ} {at n i : ℕ} → Pouring list l₀ at l n i → length l ≡ length l₀
-pouring-long f = poured-long f.passed
-
-pub ruleset many = (pouring-none, pouring_next, pouring-end, pouring-long)
+pub ruleset many = (pouring_none, pouring_next, pouring_end)

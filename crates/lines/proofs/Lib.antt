@@ -1,3 +1,3 @@
 pub mod Pours
 pub mod Digits
-pub mod Lined
+pub mod Listed

@@ -8,6 +8,7 @@ ghost use Rattle.commands.specs.Reading.{tell_taken};
 ghost use Rattle.stream.specs.Items.{item_of};
 ghost use Rattle.lines.specs.Decimals.{decimal, field, fields};
 ghost use Rattle.lines.specs.Pouring.{Put};
+ghost use Rattle.lines.specs.Pens.{Puts};
 ghost use Rattle.lines.specs.Lines.{listed, opening, text_line, del_line, letters, command_head, parameters_words, command_line, pair, refused_line, line_of, last_letter, last_line};
 
 use commands::TakenCommand;
@@ -17,17 +18,21 @@ use stream::Item;
 // No lent bytes are as many: a count of bytes stops here.
 const FAR: usize = 9223372036854775808;
 
-// Where the next byte goes, and the bytes lent for the lines.
+// Where the next byte of a line goes: the bytes lent, and the place from their start.
 #[derive(Drop)]
 struct Pen<'a> {
     out: &'a mut [u8],
     at: usize,
 }
 
-// ---- bytes and numbers
+fn last_letter(more: bool) -> u8
+    ensures { result ≡ last_letter more }
+{
+    if more { b'M' } else { b'E' }
+}
 
-impl<'a> Pen<'a> {
-    ghost use Rattle.lines.specs.Pens.{Puts};
+impl Pen<'_> {
+    // ---- bytes and numbers
 
     // One byte, stored where there is room, and counted.
     fn put(&mut self, b: u8)
@@ -78,12 +83,8 @@ impl<'a> Pen<'a> {
             self.number(*v);
         }
     }
-}
 
-// ---- the parameters
-
-impl<'a> Pen<'a> {
-    ghost use Rattle.lines.specs.Pens.{Puts};
+    // ---- the parameters
 
     // The numbers of the fixed values, each with a blank before it.
     fn fixed(&mut self, parameters: Parameters)
@@ -109,18 +110,8 @@ impl<'a> Pen<'a> {
         self.fixed(parameters);
         self.listed(parameters, count, list);
     }
-}
 
-// ---- the lines
-
-fn last_letter(more: bool) -> u8
-    ensures { result ≡ last_letter more }
-{
-    if more { b'M' } else { b'E' }
-}
-
-impl<'a> Pen<'a> {
-    ghost use Rattle.lines.specs.Pens.{Puts};
+    // ---- the lines
 
     // A letter and where the item starts.
     fn opening(&mut self, letter: u8, start: usize)
@@ -185,7 +176,7 @@ impl<'a> Pen<'a> {
         self.put(b'\n');
     }
 
-    // The line of the item that starts at `start`, with its newline. Where there is no item the line is empty.
+    #[tactic(auto, using(crate::proofs::Pours::poured_none), unfolding(stream::specs::Items::item_of, crate::specs::Lines::line_of))]
     fn line(&mut self, item: Item, start: usize, list: &[i32])
         ensures { Puts self.old (line_of (item_of item) start list.now) self.new }
     {
@@ -201,7 +192,6 @@ impl<'a> Pen<'a> {
         }
     }
 
-    // "Last: E and the bytes read, or M 4096 if more input follows": `E n` or `M n`, with its newline.
     fn last_line(&mut self, more: bool, n: usize)
         ensures { Puts self.old (last_line more n) self.new }
     {
@@ -219,7 +209,7 @@ pub fn put_line(item: Item, start: usize, list: &[i32], out: &mut [u8], at: usiz
     pen.at
 }
 
-// The last line, with its newline, from `at` on.
+// "Last: E and the bytes read, or M 4096 if more input follows": `E n` or `M n`, with its newline, from `at` on.
 pub fn put_last(more: bool, n: usize, out: &mut [u8], at: usize) -> usize
     ensures { Put out.old at (last_line more n) result out.new }
 {

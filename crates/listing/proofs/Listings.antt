@@ -21,7 +21,7 @@ use Rattle.stream.specs.declared.Item.{Item}
 use Rattle.stream.specs.Items.{Itemed, item_at, told_item, item_of, after_item, next_start, next_kept}
 use Rattle.lines.specs.Pouring.{far, behind, Put}
 use Rattle.lines.specs.Lines.{line_of, last_line}
-use Rattle.lines.proofs.Pours.{poured-none, poured-both, poured-long}
+use Rattle.lines.proofs.Pours.{poured_none, poured_both, poured_long}
 use Rattle.listing.specs.Listing.{entries_of, line_then, lines_from, lines_of, listing_with, listing_of}
 use Rattle.listing.proofs.Reading.{item-held, line_read}
 
@@ -37,7 +37,7 @@ pub going_none : (s l : List ℕ) {kept : Remembered} (list : List ℤ) → kept
 unfolding lines_of
 going_none s l list e r h =
     let z : length s - 0 ≡ length s = omega arith in
-    record { room = r; passed = []; stand = poured-none l 0 h; whole = rw (z, e) }
+    record { room = r; passed = []; stand = poured_none l 0 h; whole = rw (z, e) }
 
 one_line : (k : ℕ) (s : List ℕ) (kept : Remembered) (start : ℕ) {r : Itemed ToldCommand} → 0 < k → r ≡ told_item (item_at kept s start 256) → lines_from k s kept start ≡ line_of r start (entries_of (item_at kept s start 256)) ++ lines_from (k - 1) s (next_kept kept r) (next_start start r)
 unfolding lines_from line_then
@@ -59,7 +59,7 @@ going_more s l k kept start at list r g h er el long p es ek =
     record {
       room = long ∙ g.room;
       passed = g.passed ++ w;
-      stand = poured-both (rw line at p) g.stand;
+      stand = poured_both (rw line at p) g.stand;
       whole =
           rw (es, ek) (append_assoc g.passed w (lines_from (k - 1) s (next_kept kept (item_of r)) (next_start start (item_of r))))
           ∙ ap (λ (v : List ℕ). g.passed ++ v) (sym (one_line k s kept start h told))
@@ -81,7 +81,7 @@ pub going_over : {s l : List ℕ} {i : ℕ} {kept : Remembered} {start at : ℕ}
 going_over g h = going_end g (omega arith)
 
 pub going_long : {s l : List ℕ} {k : ℕ} {kept : Remembered} {start at : ℕ} {list : List ℤ} {o : List ℕ} → Going s l k kept start at list o → length o ≡ length l
-going_long g = poured-long g.stand
+going_long g = poured_long g.stand
 
 pub ruleset goings = (going_none, going_next, going_over, going_long)
 
@@ -89,7 +89,7 @@ pub ruleset goings = (going_none, going_next, going_over, going_long)
 
 pub listing_poured : (more : Bool) (s : List ℕ) {l l₁ o : List ℕ} {i n : ℕ} → Put l₁ i (last_line more (length s)) n o → Put l 0 (lines_of s) i l₁ → Put l 0 (listing_with more s) n o
 unfolding listing_with
-listing_poured more s b a = poured-both b a
+listing_poured more s b a = poured_both b a
 
 -- ---- poured on nothing, to learn the length; and then on the lent bytes
 
@@ -125,7 +125,7 @@ module _ (w l : List ℕ) {q : List ℕ} {m : ℕ} (dry : Put [] 0 w m q) where
         let z : n ≡ 0 + length w = omega (arith, size, wet.next) in
         rw (le-leb (0 + length w) (length l) (omega (arith, size)), z)
 
-pub ruleset writings = (listing_kept, listing_short, listing_stands, listing_fits, poured-long)
+pub ruleset writings = (listing_kept, listing_short, listing_stands, listing_fits, poured_long)
 
 -- ---- the bytes read
 

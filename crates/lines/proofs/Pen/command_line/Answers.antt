@@ -1,5 +1,4 @@
 use Rattle.std.proofs.Common.{rules}
-use Rattle.commands.specs.Reading.{tell_taken}
 use Rattle.lines.specs.Lines.{command_line}
 use Rattle.lines.proofs.Pours.{poured_both}
 use Rattle.lines.proofs.Pen.command_line.Goals as goal

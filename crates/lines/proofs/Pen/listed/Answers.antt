@@ -1,5 +1,5 @@
 use Rattle.std.proofs.Common.{rules}
-use Rattle.lines.proofs.Lined.{lists}
+use Rattle.lines.proofs.Listed.{lists}
 use Rattle.lines.proofs.Pen.listed.Goals as goal
 
 pub returns-then-is_some : goal.returns-then-is_some
