@@ -9,14 +9,11 @@ use Rattle.parameters.specs.declared.Real.{Real}
 use Rattle.parameters.specs.declared.Numbers.{Numbers}
 use Rattle.parameters.specs.declared.Parameters.{Parameters}
 use Rattle.parameters.specs.declared.Parameters.TheVariants.{OneInteger, TwoIntegers, ThreeIntegers, OnePoint, TwoPoints, AReal, AString, AnArray, IntegerThenArray, IntegerThenString, TwoCharacters}
-use Rattle.parameters.specs.Shapes.{Tailed, Pointed, values_of, tail_of, last_point}
+use Rattle.parameters.specs.Shapes.{Pointed, values_of, last_point}
 use Rattle.parameters.specs.Numbers.{four_of, Holds}
 
 pub last_of : {p q : Parameters} {a : Pointed} → p ≡ q → last_point (values_of q) ≡ a → a ≡ last_point (values_of p)
 last_of e g = sym (ap (λ x. last_point (values_of x)) e ∙ g)
-
-pub tail_of_lem : {p q : Parameters} {a : Tailed} → p ≡ q → tail_of q ≡ a → a ≡ tail_of p
-tail_of_lem e g = sym (ap tail_of e ∙ g)
 
 abbrev held : (len : ℕ) (a b c d : ℤ) → Numbers
 held len a b c d = record { values = a ∷ b ∷ c ∷ d ∷ []; len = len }

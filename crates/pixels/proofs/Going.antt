@@ -55,9 +55,6 @@ pub drawing : (ms : List Mark) (c : Canvas) → IsReady c → Drawing ms c ms c
 drawing ms c r = record { going = going ms c.beam c.surface.now r; size = refl; same = refl }
 
 module _ {ms₀ : List Mark} {c₀ : Canvas} {ms : List Mark} {c : Canvas} (d : Drawing ms₀ c₀ ms c) where
-  pub drawing_ready : IsReady c
-  drawing_ready = rw d.size d.going.ready
-
   pub drawing_on : (xs ys : List Mark) {next : Canvas} → ms ≡ xs ++ ys → Lays xs c next → Drawing ms₀ c₀ ys next
   drawing_on xs ys e l = record { going = going_on d.going xs ys e (rw d.size at l.laid); size = l.size ∙ d.size; same = l.same ∙ d.same }
 

@@ -104,14 +104,6 @@ found_pair m s at i e f =
 
 -- ---- the bytes that are taken as they stand
 
-pub most-data : {m : DelMode} → m ≡ Data → 127 ≡ most_itself m
-unfolding most_itself
-most-data e = rw e
-
-pub most-filler : {m : DelMode} → m ≡ Filler → 126 ≡ most_itself m
-unfolding most_itself
-most-filler e = rw e
-
 -- whatever is remembered
 pub itself_any : (m : DelMode) (b : ℕ) → 32 ≤ b → b < 127 → is_itself m b ≡ true
 unfolding is_itself most_itself

@@ -2,4 +2,3 @@ pub mod Sendings
 pub mod Writings
 pub mod Dels
 pub mod Feeds
-pub mod Handing
