@@ -51,6 +51,7 @@ impl<'a> Formed<'a> {
     {
         let mut going = from;
         let mut i = 0;
+        // a `while let` is no plainer: the end is one of three arms
         loop {
             match pieces::piece_at(going.kept, body, i)? {
                 Piece::End => return Ok(going),

@@ -29,7 +29,7 @@ pub enum Piece {
     },
 }
 
-// The letters of a macro's call.
+// The letters of a macro's call. `commands` tests those of KI so too: one function that takes the letters as well is no plainer than the line.
 fn is_call(first: u8, second: u8) -> bool
     ensures { result ≡ is_call first second }
 {
