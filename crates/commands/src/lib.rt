@@ -127,7 +127,7 @@ pub fn after_letters(kept: Remembered, first: u8, second: u8, number: i32) -> Re
     kept
 }
 
-// The same where the first number is still in the parameters: only KI is asked for it.
+// The same where the first number is still in the parameters: only KI is asked for it, so that the others need not be made into numbers.
 #[tactic(auto, using(crate::proofs::Modes::ki_behind, crate::proofs::Modes::others_keep))]
 pub fn after_parameters(
     kept: Remembered,
@@ -198,7 +198,8 @@ pub fn read_command(
     body(kept, letters, s, start, list)
 }
 
-// ---- the same where the entries are of no interest: none is handed over and none lacks room
+// ---- the same where the entries are of no interest: none is handed over and none lacks room. Functions of their own, since a list that may be wanting
+// would have to be asked for behind each command.
 
 // Read as in room for 256 entries, the most that a command has: 7 does not come, and the start, which would be its place, is not asked for. The list
 // lent here has no room, so nothing is handed over.

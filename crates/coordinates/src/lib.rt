@@ -31,7 +31,8 @@ pub fn point_given(x: i32, y: i32) -> Point
 
 // ---- what is remembered
 
-// A mode that is neither 0 nor 1 stands for a point outside, so that each call refuses it with 8, "value out of range".
+// A mode that is neither 0 nor 1 stands for a point outside, so that each call refuses it with 8, "value out of range". By name and not by `From`, here and
+// below: an array and what is remembered are both of other crates.
 #[tactic(auto, using(refusals::proofs::Rules::tests), unfolding(crate::specs::Remembering::kept_in))]
 pub fn kept_in(remembered: &[u16; 3]) -> Remembered
     ensures { result ≡ kept_in remembered.now }

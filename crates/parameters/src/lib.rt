@@ -46,7 +46,8 @@ pub enum Parameters {
     TwoCharacters(i32, i32),
 }
 
-// The fixed parameters as numbers, a point as x and y, and 0 in what is left. Two points have the most, four.
+// The fixed parameters as numbers, a point as x and y, and 0 in what is left. Two points have the most, four. An array with its length beside it, since
+// memory is fixed, and since all four are handed to C.
 #[derive(Clone, Copy)]
 pub struct Numbers {
     pub values: [i32; 4],
@@ -102,7 +103,7 @@ fn read_entry(kept: Remembered, entry: Entry, s: &[u8], at: usize) -> Result<Tak
     }
 }
 
-// So many entries from `at` on: where they end, or the first that is refused.
+// So many entries from `at` on: where they end, or the first that is refused. Apart from `read_entries`, which needs an array to store them in.
 #[tactic(auto, using(crate::proofs::Entering::passings))]
 fn pass_entries(
     kept: Remembered,
@@ -262,7 +263,8 @@ fn read_run(
 
 // ---- each kind
 
-// What was read of a kind without a list.
+// What was read of a kind without a list. Each kind below has a function of its own, though some differ in the case that they make alone: with the case
+// as a closure there would be as many, and a promise on each closure.
 #[tactic(auto, unfolding(crate::specs::Looking::look_of))]
 fn without_list(parameters: Parameters, next: usize, kept: Remembered) -> TakenParameters
     ensures { look_of (Ok result) ≡ done (parsed_as parameters (record { start = 0; count = 0; next = next }) kept) }

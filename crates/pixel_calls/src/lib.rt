@@ -23,7 +23,7 @@ const NO_BEAM: Beam = Beam {
     y: 0,
 };
 
-// ---- the record
+// ---- the record; by name and not by `From`, since an array and a `Beam` are both of other crates
 
 #[tactic(auto, unfolding(crate::specs::Fields::beam_in))]
 fn beam_in(fields: &[usize; 7]) -> Beam

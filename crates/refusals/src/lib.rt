@@ -43,7 +43,7 @@ pub enum Refusal {
 }
 
 impl Refusal {
-    // The number that document 01 gives the refusal.
+    // The number that document 01 gives the refusal. By name and not by `From`: `u8::from(refusal)` would not say which number.
     pub fn number(self) -> u8
         ensures { result ≡ number_of self }
     {

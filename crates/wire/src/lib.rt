@@ -71,7 +71,8 @@ fn found(mode: DelMode, s: &[u8], at: usize) -> Result<Taken<u8>, RefusedAt>
     }
 }
 
-// The next byte of a parameter.
+// The next byte of a parameter. What is remembered, the bytes and the place go side by side through all reading, and not as one struct: the definitions
+// take them apart, so that a promise would say `from.entry.kept`, `from.entry.bytes.now` and `from.entry.at` for three words, and the place alone moves.
 #[tactic(auto, using(crate::proofs::Dels::found_behind))]
 pub fn take(kept: Remembered, s: &[u8], at: usize) -> Result<Taken<u8>, RefusedAt>
     ensures { answer_at result ≡ byte_at kept s.now at }
@@ -213,8 +214,8 @@ pub fn pour_behind(kept: Remembered, n: usize, b: u8, out: &mut [u8], at: usize)
     1
 }
 
-// One, two and three bytes of a parameter, as they are sent, from `at` on as far as there is room. Answers how many they are, so that
-// lending no room finds the length.
+// One, two and three bytes of a parameter, as they are sent, from `at` on as far as there is room. Answers how many they are, so that lending no room finds
+// the length. Three functions, and not one of an array of N bytes, which would be stored only to be read again.
 #[tactic(auto, using(crate::proofs::Sendings::one_first))]
 pub fn pour_one(kept: Remembered, a: u8, out: &mut [u8], at: usize) -> usize
     ensures { Pours (sent kept (a ∷ [])) out.old at result out.new }

@@ -13,6 +13,7 @@ use ranges::MOST_ENTRIES;
 use table::Kind;
 
 // The calls for other languages number the kinds so.
+// As the calls for other languages number the kinds. By name and not by `From`, which would have to stand in `table`.
 pub fn kind_number(kind: Kind) -> u8
     ensures { result ≡ kind_number (kind_meant kind) }
 {
@@ -31,6 +32,7 @@ pub fn kind_number(kind: Kind) -> u8
     }
 }
 
+// No `From`: both types are of other crates.
 pub fn kind_of_parameters(parameters: Parameters) -> Kind
     ensures { kind_meant result ≡ kind_for parameters }
 {
