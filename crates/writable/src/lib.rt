@@ -86,21 +86,17 @@ fn two_entries_fit(entry: Entry, a: i32, b: i32) -> bool
     is_entry(entry, a) & is_entry(entry, b)
 }
 
-fn three_integers_fit(a: i32, b: i32, d: i32) -> bool
-    ensures { result ≡ is_entry Entry.AnInteger a && (is_entry Entry.AnInteger b && is_entry Entry.AnInteger d) }
-{
-    is_entry(Entry::AnInteger, a) & two_entries_fit(Entry::AnInteger, b, d)
-}
-
 // The kinds with one integer have an arm each: the check gives no proof of an arm that binds the integer of several.
-#[tactic(auto, using(refusals::proofs::Cases::and_true), unfolding(refusals::specs::Answers::every))]
+#[tactic(auto, using(crate::proofs::Fitting::values), unfolding(refusals::specs::Answers::every))]
 fn values_fit(parameters: Parameters) -> bool
     ensures { result ≡ are_values (values_of parameters) }
 {
     match parameters {
         Parameters::OneInteger(a) => is_entry(Entry::AnInteger, a),
         Parameters::TwoIntegers(a, b) => two_entries_fit(Entry::AnInteger, a, b),
-        Parameters::ThreeIntegers(a, b, d) => three_integers_fit(a, b, d),
+        Parameters::ThreeIntegers(a, b, d) => {
+            is_entry(Entry::AnInteger, a) & two_entries_fit(Entry::AnInteger, b, d)
+        }
         Parameters::OnePoint(p) => memory::is_inside(p),
         Parameters::TwoPoints(p, q) => memory::is_inside(p) & memory::is_inside(q),
         Parameters::AReal(r) => two_entries_fit(Entry::AnInteger, r.mantissa, r.exponent),
