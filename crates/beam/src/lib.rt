@@ -90,7 +90,7 @@ fn settle(size: Size, beam: Beam, allowed: bool, new: Beam) -> Result<Beam, Refu
     Ok(new)
 }
 
-// "Fresh: the whole surface, beam at the upper left." Where it is refused, all fields that are handed back are 0.
+// "Fresh: the whole surface, beam at the upper left."
 #[tactic(auto, using(crate::proofs::Settling::size_w, crate::proofs::Settling::size_h), unfolding(crate::specs::Settings::settled_by, crate::specs::Settings::make_fresh))]
 pub fn fresh(size: Size) -> Result<Beam, Refusal>
     ensures { settled_by no_beam result ≡ make_fresh size.w size.h }

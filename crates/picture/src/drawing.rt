@@ -2,7 +2,6 @@
 ghost use Rattle.std.specs.Prelude.{◌<◌};
 
 use beam::Size;
-use refusals::Refusal;
 
 pub const WIDTH: usize = 480;
 
@@ -40,12 +39,18 @@ fn characters(y: u16) -> [i32; CHARACTERS] {
     list
 }
 
-pub fn draw(surface: &mut [u8]) -> Result<(), Refusal> {
-    let fresh = beam::fresh(SIZE)?;
-    let mut beam = beam::set_bits(SIZE, fresh, 1, 11, 3)?;
+// A row that were refused would leave the surface and the record as they are.
+pub fn draw(surface: &mut [u8]) {
+    let Ok(fresh) = beam::fresh(SIZE) else {
+        return;
+    };
+    let Ok(mut beam) = beam::set_bits(SIZE, fresh, 1, 11, 3) else {
+        return;
+    };
     for y in 0..HEIGHT {
         let list = characters(y as u16);
-        beam = pixels::draw_raster(surface, SIZE, beam, 480, &list)?.beam;
+        if let Ok(drawn) = pixels::draw_raster(surface, SIZE, beam, 480, &list) {
+            beam = drawn.beam;
+        }
     }
-    Ok(())
 }

@@ -9,8 +9,6 @@ use std::io;
 
 fn main(rt: HostRuntime) -> io::Result<()> {
     let mut surface = [0; WIDTH * HEIGHT];
-    if drawing::draw(&mut surface).is_err() {
-        return Err(io::ErrorKind::InvalidInput.into());
-    }
+    drawing::draw(&mut surface);
     ppm::write(&mut rt.stdout(), &surface)
 }

@@ -12,7 +12,7 @@ use beam::{Beam, Size};
 use pixels::Drawn;
 use refusals::Refusal;
 
-// What a refused fresh record hands back.
+// "Where a fresh record is refused, all its fields are 0."
 const NO_BEAM: Beam = Beam {
     bits: 0,
     left: 0,

@@ -12,8 +12,7 @@ use parameters::{Entry, Parameters};
 use ranges::MOST_ENTRIES;
 use table::Kind;
 
-// The calls for other languages number the kinds so.
-// As the calls for other languages number the kinds. By name and not by `From`, which would have to stand in `table`.
+// The calls for other languages number the kinds so. By name and not by `From`, which would have to stand in `table`.
 pub fn kind_number(kind: Kind) -> u8
     ensures { result ≡ kind_number (kind_meant kind) }
 {
