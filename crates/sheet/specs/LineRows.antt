@@ -57,5 +57,5 @@ line_examples =
     ∷ item (command 82 76 P.AnArray 0) 0 (pos 72 ∷ []) (67 ∷ 32 ∷ 48 ∷ 32 ∷ 82 ∷ 76 ∷ 32 ∷ 48 ∷ 10 ∷ [])
     -- no item, no line
     ∷ item I.Nothing 13 [] []
-    ∷ item (I.Refused BytesEnd 0) 13 [] []
+    ∷ item (I.Refused (record { refusal = BytesEnd; place = 0 })) 13 [] []
     ∷ []
