@@ -23,14 +23,14 @@ pub struct Stores<'a> {
 }
 
 // A body as part of a store: where it begins in it, and its length.
-#[derive(Clone, Copy, PartialEq, Eq)]
+#[derive(Clone, Copy)]
 pub struct Part {
     pub offset: usize,
     pub long: usize,
 }
 
 // Where look up finds a body.
-#[derive(Clone, Copy, PartialEq, Eq)]
+#[derive(Clone, Copy)]
 pub enum Place {
     InVolatile(Part),
     InSaved(Part),
@@ -45,7 +45,7 @@ struct EntryAt {
 }
 
 // Where a macro stands in a store.
-#[derive(Clone, Copy, PartialEq, Eq)]
+#[derive(Clone, Copy)]
 pub struct Gap {
     // where its entry begins, or would begin
     pub at: usize,
@@ -62,10 +62,10 @@ pub struct Gap {
 fn none_above(part: &[u8], most: u8) -> bool
     ensures { result ≡ every (at_most most) part.now }
 {
-    // with no way out of the middle several bytes are tested at once
+    // as in `ranges::are_within`: `all` was tried, and misses a bar of speed
     let mut good = true;
     for b in part {
-        good = good & (*b <= most);
+        good &= *b <= most;
     }
     good
 }

@@ -14,6 +14,7 @@ const SAVED: [u8; 14] = [0, 10, 1, 66, 0, 14, 3, 1, 2, 3, 255, 254, 1, 127];
 // An entry that its store ends in.
 const MALFORMED: [u8; 4] = [0, 10, 2, 72];
 
+// `vectors` has the same lines: in a library they would owe a promise of what `write!` appends for a number, which std's does not give.
 fn bytes<W: Write>(writer: &mut W, s: &[u8]) -> io::Result<()> {
     for b in s {
         write!(writer, " {b}")?;
@@ -36,33 +37,32 @@ fn line<W: Write>(writer: &mut W, stores: Stores<'_>, number: i32) -> io::Result
     writeln!(writer)
 }
 
-fn lines<W: Write>(
-    writer: &mut W,
-    volatile: &[u8],
-    saved: &[u8],
-    numbers: &[i32],
-) -> io::Result<()> {
+fn stores<'a>(volatile: &'a [u8], saved: &'a [u8]) -> Stores<'a> {
+    Stores { volatile, saved }
+}
+
+fn lines<W: Write>(writer: &mut W, stores: Stores<'_>, numbers: &[i32]) -> io::Result<()> {
     for number in numbers {
-        line(writer, Stores { volatile, saved }, *number)?;
+        line(writer, stores, *number)?;
     }
     Ok(())
 }
 
 // In one store, in the other, in both, and in none.
 fn found_and_absent<W: Write>(writer: &mut W) -> io::Result<()> {
-    lines(writer, &VOLATILE, &SAVED, &[5, 300, 7, 32767])?;
-    lines(writer, &SAVED, &VOLATILE, &[5])?;
-    lines(writer, &SAVED, &SAVED, &[7])?;
-    lines(writer, &VOLATILE, &SAVED, &[6])?;
-    lines(writer, &VOLATILE, b"", &[7])?;
-    lines(writer, b"", b"", &[0])
+    lines(writer, stores(&VOLATILE, &SAVED), &[5, 300, 7, 32767])?;
+    lines(writer, stores(&SAVED, &VOLATILE), &[5])?;
+    lines(writer, stores(&SAVED, &SAVED), &[7])?;
+    lines(writer, stores(&VOLATILE, &SAVED), &[6])?;
+    lines(writer, stores(&VOLATILE, b""), &[7])?;
+    lines(writer, stores(b"", b""), &[0])
 }
 
 fn refused<W: Write>(writer: &mut W) -> io::Result<()> {
-    lines(writer, &VOLATILE, &SAVED, &[-1, 32768, 65541])?;
-    lines(writer, &MALFORMED, &SAVED, &[7])?;
-    lines(writer, &VOLATILE, &MALFORMED, &[300])?;
-    lines(writer, &MALFORMED, &MALFORMED, &[-1])
+    lines(writer, stores(&VOLATILE, &SAVED), &[-1, 32768, 65541])?;
+    lines(writer, stores(&MALFORMED, &SAVED), &[7])?;
+    lines(writer, stores(&VOLATILE, &MALFORMED), &[300])?;
+    lines(writer, stores(&MALFORMED, &MALFORMED), &[-1])
 }
 
 fn main(rt: HostRuntime) -> io::Result<()> {

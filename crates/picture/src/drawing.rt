@@ -49,7 +49,7 @@ pub fn draw(surface: &mut [u8]) {
     };
     for y in 0..HEIGHT {
         let list = characters(y as u16);
-        if let Ok(drawn) = pixels::draw_raster(surface, SIZE, beam, 480, &list) {
+        if let Ok(drawn) = pixels::draw_raster(surface, SIZE, beam, WIDTH as i32, &list) {
             beam = drawn.beam;
         }
     }

@@ -1,5 +1,5 @@
 // A PPM: a heading, then three bytes for each pixel, the top row first.
-use crate::drawing::WIDTH;
+use crate::drawing::{HEIGHT, WIDTH};
 use std::io;
 use std::io::Write;
 
@@ -24,7 +24,7 @@ fn write_row<W: Write>(writer: &mut W, row: &[u8]) -> io::Result<()> {
 }
 
 pub fn write<W: Write>(writer: &mut W, surface: &[u8]) -> io::Result<()> {
-    writer.write_all(b"P6\n480 360\n255\n")?;
+    write!(writer, "P6\n{WIDTH} {HEIGHT}\n255\n")?;
     for row in surface.chunks(WIDTH) {
         write_row(writer, row)?;
     }

@@ -65,20 +65,18 @@ pub fn ardh_next_item(
     ensures { NextItem remembered.old bytes.now start list.old result item.new values.new remembered.new list.new }
 {
     let kept = coordinates::kept_in(remembered);
+    *values = [0; 4];
     match stream::read_item(kept, bytes, start, list) {
         Item::Nothing => {
             *item = [0; 7];
-            *values = [0; 4];
             DONE
         }
         Item::Text(text) => {
             *item = [1, text.next, 0, usize::from(text.byte), 0, 0, 0];
-            *values = [0; 4];
             DONE
         }
         Item::Del(del) => {
             *item = [5, del.next, 0, 0, 0, 0, 0];
-            *values = [0; 4];
             DONE
         }
         Item::Command(taken) => {
@@ -89,12 +87,10 @@ pub fn ardh_next_item(
         }
         Item::RefusedCommand(refused) => {
             *item = [3, refused.next, refused.place, 0, 0, 0, 0];
-            *values = [0; 4];
             refused.refusal.number()
         }
         Item::Refused(refused) => {
             *item = [4, 0, refused.place, 0, 0, 0, 0];
-            *values = [0; 4];
             refused.refusal.number()
         }
     }

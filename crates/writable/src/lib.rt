@@ -12,7 +12,7 @@ use parameters::{Entry, Parameters};
 use ranges::MOST_ENTRIES;
 use table::Kind;
 
-// The calls for other languages number the kinds so. By name and not by `From`, which would have to stand in `table`.
+// The calls for other languages number the kinds so. By name and not by `From`: `u8::from(kind)` would not say which number.
 pub fn kind_number(kind: Kind) -> u8
     ensures { result ≡ kind_number (kind_meant kind) }
 {
@@ -71,10 +71,10 @@ fn is_entry(entry: Entry, v: i32) -> bool
 fn are_entries(entry: Entry, list: &[i32]) -> bool
     ensures { result ≡ are_entries entry list.now }
 {
-    // with no way out of the middle several entries are tested at once
+    // as in `ranges::are_within`: `all` was tried, and misses a bar of speed
     let mut good = true;
     for v in list {
-        good = good & is_entry(entry, *v);
+        good &= is_entry(entry, *v);
     }
     good
 }
