@@ -102,6 +102,9 @@ module _ (w h size : ℕ) (beam : Beam) (list : List ℤ) {u : Unit {0}} (ev : r
   pub runs_ready : Ready w h beam size
   runs_ready = ready may
 
+  pub runs_some : 0 < beam.bits
+  runs_some = may.some
+
   pub runs_six : beam.bits ≤ 6
   runs_six = may.six
 

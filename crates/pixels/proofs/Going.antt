@@ -5,39 +5,31 @@ use mathlib.Core.List.{List, [], ◌∷◌, ◌++◌}
 use native.Mathlib.Nat.{mul-suc, mul-le-mul_left, min-le_right, mul-div-le, le_trans}
 use native.Mathlib.Omega.{arith}
 use borrow.Author.Tests.{eq-eqb, ne_eqb}
-use lib.ListN.{length}
 use Rattle.beam.specs.declared.Beam.{Beam}
 use Rattle.pixels.specs.declared.Canvas.{Canvas}
 use Rattle.pixel_refusals.specs.Tests.{per_character, end_of_row}
 use Rattle.pixels.specs.Marks.{Mark, ink, laid, moved, row_end}
 use Rattle.pixels.specs.Writes.{pixels, character_marks, run}
-use Rattle.pixels.specs.Standing.{Ready, MarksLaid, IsReady, Lays}
-use Rattle.pixels.proofs.Laying.{laid-append, laid-length, moved-append, moved_inside, moved-bits}
+use Rattle.pixels.specs.Standing.{MarksLaid}
+use Rattle.pixels.specs.Canvas.{Lays}
+use Rattle.pixels.proofs.Laying.{laid-append, moved-append}
 use Rattle.pixels.proofs.Rows.{row_kept}
 
 -- the marks ms that are left, from the record and the surface of here, come to the same end as all marks from those of the start
 pub record Going (w h : ℕ) (ms₀ : List Mark) (beam₀ : Beam) (s₀ : List ℕ) (ms : List Mark) (beam : Beam) (s : List ℕ) : Type 0 where
-  pub ready : Ready w h beam (length s)
-  pub long : length s ≡ length s₀
-  pub depth : beam.bits ≡ beam₀.bits
   pub surface : laid w h ms beam s ≡ laid w h ms₀ beam₀ s₀
   pub end : moved ms beam ≡ moved ms₀ beam₀
 
-pub going : {w h : ℕ} (ms : List Mark) (beam : Beam) (s : List ℕ) → Ready w h beam (length s) → Going w h ms beam s ms beam s
-going ms beam s r = record { ready = r; long = refl; depth = refl; surface = refl; end = refl }
+pub going : {w h : ℕ} (ms : List Mark) (beam : Beam) (s : List ℕ) → Going w h ms beam s ms beam s
+going ms beam s = record { surface = refl; end = refl }
 
 module _ {w h : ℕ} {ms₀ : List Mark} {beam₀ : Beam} {s₀ : List ℕ} {ms : List Mark} {beam : Beam} {s : List ℕ} (g : Going w h ms₀ beam₀ s₀ ms beam s) where
   -- the marks xs are laid, and ys are left
   pub going_on : (xs ys : List Mark) {next : Beam} {t : List ℕ} → ms ≡ xs ++ ys → MarksLaid w h xs beam s next t → Going w h ms₀ beam₀ s₀ ys next t
-  going_on xs ys e m =
-      let l = ap length m.surface ∙ laid-length w h xs beam s in
-      record {
-        ready = record { inside = rw m.behind (moved_inside xs g.ready.inside); whole = l ∙ g.ready.whole; narrow = g.ready.narrow; short = g.ready.short };
-        long = l ∙ g.long;
-        depth = ap (λ (b : Beam). b.bits) m.behind ∙ moved-bits xs beam ∙ g.depth;
-        surface = rw (m.behind, m.surface, ← laid-append w h xs ys beam s, ← e) g.surface;
-        end = rw (m.behind, ← moved-append xs ys beam, ← e) g.end;
-      }
+  going_on xs ys e m = record {
+    surface = rw (m.behind, m.surface, ← laid-append w h xs ys beam s, ← e) g.surface;
+    end = rw (m.behind, ← moved-append xs ys beam, ← e) g.end;
+  }
 
   -- none are left
   pub going_done : ms ≡ [] → MarksLaid w h ms₀ beam₀ s₀ beam s
@@ -51,8 +43,8 @@ pub record Drawing (ms₀ : List Mark) (c₀ : Canvas) (ms : List Mark) (c : Can
   pub size : c.size ≡ c₀.size
   pub same : c.surface.ghost_name ≡ c₀.surface.ghost_name
 
-pub drawing : (ms : List Mark) (c : Canvas) → IsReady c → Drawing ms c ms c
-drawing ms c r = record { going = going ms c.beam c.surface.now r; size = refl; same = refl }
+pub drawing : (ms : List Mark) (c : Canvas) → Drawing ms c ms c
+drawing ms c = record { going = going ms c.beam c.surface.now; size = refl; same = refl }
 
 module _ {ms₀ : List Mark} {c₀ : Canvas} {ms : List Mark} {c : Canvas} (d : Drawing ms₀ c₀ ms c) where
   pub drawing_on : (xs ys : List Mark) {next : Canvas} → ms ≡ xs ++ ys → Lays xs c next → Drawing ms₀ c₀ ys next

@@ -1,6 +1,6 @@
 -- Laws of the laying: a step keeps the beam inside, marks laid one behind another are laid as one list, and a beam's place lies on the surface.
 use Prim.Native.Nat.{ℕ, ◌+◌, ◌-◌, ◌*◌, ◌≤◌, ◌<◌}
-use mathlib.Core.Path.{◌≡◌, refl, ◌∙◌}
+use mathlib.Core.Path.{◌≡◌, refl, ◌∙◌, ap}
 use mathlib.Core.Bool.{true, ◌&&◌}
 use mathlib.Core.List.{List, [], ◌∷◌, ◌++◌}
 use native.Mathlib.Omega.{arith}
@@ -76,6 +76,14 @@ pub moved-bits : (ms : List Mark) (beam : Beam) → (moved ms beam).bits ≡ bea
 unfolding moved
 moved-bits [] beam = refl
 moved-bits (m ∷ ms) beam = moved-bits ms (stepped beam) ∙ step-bits beam
+
+-- a surface that may be drawn on, and the bits, stay so behind marks
+module _ (ms : List Mark) (beam : Beam) {next : Beam} (e : next ≡ moved ms beam) where
+  pub ready_behind : {w h m n : ℕ} → m ≡ n → Ready w h beam n → Ready w h next m
+  ready_behind l r = record { inside = rw e (moved_inside ms r.inside); whole = l ∙ r.whole; narrow = r.narrow; short = r.short }
+
+  pub bits_behind : next.bits ≡ beam.bits
+  bits_behind = ap (λ (b : Beam). b.bits) e ∙ moved-bits ms beam
 
 -- ---- what the tests tell
 

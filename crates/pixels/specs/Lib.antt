@@ -1,3 +1,4 @@
 pub mod Marks
 pub mod Writes
 pub mod Standing
+pub mod Canvas

@@ -1,7 +1,6 @@
 -- What the functions behind the two writes may count on, once the tests have passed, and what they leave.
-use Rattle.std.specs.Prelude.{ℕ, ◌*◌, ◌≤◌, ◌<◌, ◌≡◌, List, length}
+use Rattle.std.specs.Prelude.{ℕ, ◌*◌, ◌≤◌, ◌<◌, ◌≡◌, List}
 use Rattle.beam.specs.declared.Beam.{Beam}
-use Rattle.pixels.specs.declared.Canvas.{Canvas}
 use Rattle.pixels.specs.Marks.{Mark, laid, moved}
 
 -- "a viewport inside the surface and a beam inside the viewport"
@@ -24,12 +23,3 @@ pub record Ready (w h : ℕ) (beam : Beam) (n : ℕ) : Type 0 where
 pub record MarksLaid (w h : ℕ) (ms : List Mark) (beam : Beam) (s : List ℕ) (next : Beam) (t : List ℕ) : Type 0 where
   pub behind : next ≡ moved ms beam
   pub surface : t ≡ laid w h ms beam s
-
--- the same of a canvas: it may be drawn on, and what the marks make of it
-abbrev pub IsReady : Canvas → Type 0
-IsReady c = Ready c.size.w c.size.h c.beam (length c.surface.now)
-
-pub record Lays (ms : List Mark) (old new : Canvas) : Type 0 where
-  pub laid : MarksLaid old.size.w old.size.h ms old.beam old.surface.now new.beam new.surface.now
-  pub size : new.size ≡ old.size
-  pub same : new.surface.ghost_name ≡ old.surface.ghost_name

@@ -7,7 +7,7 @@ ghost use Rattle.refusals.specs.Answers.{every};
 ghost use Rattle.pixel_refusals.specs.Tests.{is_raster, run_numbers};
 ghost use Rattle.pixels.specs.Marks.{ink, moved, row_end};
 ghost use Rattle.pixels.specs.Writes.{pixels, character_marks, left_after, run, raster_marks, run_marks, run_total, drawn_by, draw_raster, raster_surface, draw_runs, runs_surface};
-ghost use Rattle.pixels.specs.Standing.{IsReady, Lays};
+ghost use Rattle.pixels.specs.Standing.{Ready};
 
 use beam::{Beam, Size};
 use pixel_refusals::END_OF_ROW;
@@ -46,19 +46,23 @@ fn left_after(beam: Beam, n: usize, ch: usize) -> usize
     n.saturating_sub(6 / beam.bits)
 }
 
-// A lent surface, its size, and the record that it is drawn with.
+// A lent surface, its size, and the record that it is drawn with, once the tests have passed.
 #[derive(Drop)]
 struct Canvas<'a> {
     surface: &'a mut [u8],
     size: Size,
     beam: Beam,
+    ghost ready: { Ready size.w size.h beam (length surface.now) },
+    ghost some: { 0 < beam.bits },
+    ghost six: { beam.bits ≤ 6 },
 }
 
 impl<'a> Canvas<'a> {
+    ghost use Rattle.pixels.specs.Canvas.{Lays};
+
     // One colour at the beam's place, and the beam one place on.
     #[tactic(auto, using(crate::proofs::Laying::place_within))]
     fn lay_pixel(&mut self, colour: u8)
-        requires { IsReady self.old }
         ensures { Lays (ink colour ∷ []) self.old self.new }
     {
         let i = (self.size.h - 1 - self.beam.y) * self.size.w + self.beam.x;
@@ -68,7 +72,6 @@ impl<'a> Canvas<'a> {
 
     // `n` pixels of one colour.
     fn lay_run(&mut self, colour: u8, n: usize)
-        requires { IsReady self.old }
         ensures { Lays (run colour n) self.old self.new }
     {
         for _ in 0..n {
@@ -78,8 +81,7 @@ impl<'a> Canvas<'a> {
 
     // The first `n` pixels of six bits, from the top bits down.
     fn lay_pixels(&mut self, six: usize, n: usize)
-        requires ready { IsReady self.old }
-        requires n_bound { (self.old.beam.bits * n ≤ 6) × (self.old.beam.bits ≤ 6) }
+        requires { self.old.beam.bits * n ≤ 6 }
         ensures { Lays (pixels self.old.beam.bits n 6 six) self.old self.new }
     {
         let bits = self.beam.bits;
@@ -94,8 +96,7 @@ impl<'a> Canvas<'a> {
     // One raster character where `n` pixels are still to be named: "32 plus six bits", "6/bits to a character"; or an end-of-row.
     #[tactic(auto, using(crate::proofs::Going::character_room))]
     fn lay_character(&mut self, n: usize, ch: usize)
-        requires ready { IsReady self.old }
-        requires bits_nonzero { (0 < self.old.beam.bits) × ((self.old.beam.bits ≤ 6) × (32 ≤ ch)) }
+        requires { 32 ≤ ch }
         ensures { Lays (character_marks self.old.beam n ch) self.old self.new }
     {
         if ch == END_OF_ROW {
@@ -107,9 +108,7 @@ impl<'a> Canvas<'a> {
 
     // The `n` pixels of raster characters.
     fn lay_raster(&mut self, n: usize, list: &[i32])
-        requires ready { IsReady self.old }
-        requires bits_nonzero { (0 < self.old.beam.bits) × (self.old.beam.bits ≤ 6) }
-        requires list_value { every is_raster list.now ≡ true }
+        requires { every is_raster list.now ≡ true }
         ensures { Lays (raster_marks self.old.beam n (map nat_abs list.now)) self.old self.new }
     {
         let mut left = n;
@@ -123,8 +122,6 @@ impl<'a> Canvas<'a> {
 
     // The runs of codes: "length times 2^bits plus colour".
     fn lay_runs(&mut self, list: &[i32])
-        requires ready { IsReady self.old }
-        requires bits_bound { self.old.beam.bits ≤ 6 }
         ensures { Lays (run_marks self.old.beam.bits (map nat_abs list.now)) self.old self.new }
     {
         let bits = self.beam.bits;

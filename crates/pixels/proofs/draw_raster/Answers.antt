@@ -9,14 +9,13 @@ returns-in_err-raster_verdict c =
     let p = err_from_is_err_and c.from_residual.result c.from_residual.ensures.1 in
     rw (p.1, p.2) (raster_refused _ _ _ _ _ _ c.ranges.n _ e, raster_unchanged _ _ _ _ _ _ c.ranges.n _ e)
 
-pub lay_raster-requires : goal.lay_raster-requires
-lay_raster-requires c =
+pub invariant_of-canvas : goal.invariant_of-canvas
+invariant_of-canvas c =
     let e = c.in_ok-raster_verdict.ensures in
-    record {
-      ready = raster_ready _ _ _ _ _ _ c.ranges.n e;
-      bits_nonzero = (raster_some _ _ _ _ _ _ c.ranges.n e, raster_six _ _ _ _ _ _ c.ranges.n e);
-      list_value = raster_fits _ _ _ _ _ _ c.ranges.n e;
-    }
+    record { ready = raster_ready _ _ _ _ _ _ c.ranges.n e; some = raster_some _ _ _ _ _ _ c.ranges.n e; six = raster_six _ _ _ _ _ _ c.ranges.n e }
+
+pub lay_raster-requires : goal.lay_raster-requires
+lay_raster-requires c = raster_fits _ _ _ _ _ _ c.ranges.n c.in_ok-raster_verdict.ensures
 
 pub returns : goal.returns
 returns c =

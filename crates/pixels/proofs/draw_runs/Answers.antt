@@ -1,6 +1,6 @@
 use borrow.Author.Rules.{rules}
 use Rattle.std.proofs.lemmas.Result.{err_from_is_err_and}
-use Rattle.pixels.proofs.Answering.{runs_ready, runs_six, runs_fit, runs_refused, runs_unchanged, runs_drawn, runs_laid}
+use Rattle.pixels.proofs.Answering.{runs_ready, runs_some, runs_six, runs_fit, runs_refused, runs_unchanged, runs_drawn, runs_laid}
 use Rattle.pixels.proofs.draw_runs.Goals as goal
 
 pub returns-in_err-run_verdict : goal.returns-in_err-run_verdict
@@ -13,9 +13,10 @@ pub run_total-total-requires : goal.run_total-total-requires
 run_total-total-requires c =
     let e = c.in_ok-run_verdict.ensures in (runs_fit _ _ _ _ _ e, runs_six _ _ _ _ _ e)
 
-pub lay_runs-requires : goal.lay_runs-requires
-lay_runs-requires c =
-    let e = c.in_ok-run_verdict.ensures in record { ready = runs_ready _ _ _ _ _ e; bits_bound = runs_six _ _ _ _ _ e }
+pub invariant_of-canvas : goal.invariant_of-canvas
+invariant_of-canvas c =
+    let e = c.in_ok-run_verdict.ensures in
+    record { ready = runs_ready _ _ _ _ _ e; some = runs_some _ _ _ _ _ e; six = runs_six _ _ _ _ _ e }
 
 pub returns : goal.returns
 returns c =

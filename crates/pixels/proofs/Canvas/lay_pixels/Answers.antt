@@ -14,7 +14,7 @@ loop-preserved c =
     let i = c.loop.counter in
     let sh = c.loop.shift in
     let more = c.loop-test.true in
-    let colour = masked b (a.six / 2 ^ (sh - b)) c.requires.n_bound.1 in
+    let colour = masked b (a.six / 2 ^ (sh - b)) a.self.now.six in
     let laid = rw colour at c.lay_pixel.ensures in
     record {
       drawing = drawing_on c.loop.invariant.drawing (ink (a.six / 2 ^ (sh - b) % 2 ^ b) ∷ []) (pixels b (a.n - (i + 1)) (sh - b) a.six) (pixels_next b a.n i sh a.six more) laid;

@@ -12,12 +12,11 @@ use Rattle.pixels.proofs.Going.{drawing_on, drawing_done}
 use Rattle.pixel_refusals.proofs.Entries.{entry_at, entry_within, next-entry, no_entry}
 use Rattle.pixels.proofs.Canvas.lay_raster.Goals as goal
 
-pub lay_character-requires-clause-bits_nonzero : goal.lay_character-requires-clause-bits_nonzero
-lay_character-requires-clause-bits_nonzero c =
-    let b : c.loop-v.self.beam.bits ≡ c.args.self.now.beam.bits = c.loop-v.invariant.going.depth in
+pub lay_character-requires : goal.lay_character-requires
+lay_character-requires c =
     let fits : SFits w32 (get_or c.args.list.now c.loop-v.v-index (pos 0)) = search rules in
-    let e = entry_within 32 96 c.args.list.now c.loop-v.v-index c.requires.list_value c.loop-v-test.true in
-    (omega arith, (omega arith, omega (arith, e, entry_at c.args.list.now c.loop-v.v-index fits c.magnitude-ch.ensures)))
+    let e = entry_within 32 96 c.args.list.now c.loop-v.v-index c.requires c.loop-v-test.true in
+    omega (arith, e, entry_at c.args.list.now c.loop-v.v-index fits c.magnitude-ch.ensures)
 
 pub loop-v-preserved : goal.loop-v-preserved
 unfolding raster_marks

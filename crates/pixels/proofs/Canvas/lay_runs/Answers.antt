@@ -23,7 +23,7 @@ loop-v-preserved c =
     let l = map nat_abs a.list.now in
     let k = c.magnitude-code.result in
     let xs = run (bit_and k (1 * 2 ^ b % 2 ^ 64 - 1)) (k / 2 ^ b) in
-    let d : run_marks b (drop i l) ≡ xs ++ run_marks b (drop (i + 1) l) = rw (masked b k c.requires.bits_bound) (ap (run_marks b) (next-entry a.list.now i c.loop-v-test.true (entry_at a.list.now i fits c.magnitude-code.ensures))) in
+    let d : run_marks b (drop i l) ≡ xs ++ run_marks b (drop (i + 1) l) = rw (masked b k a.self.now.six) (ap (run_marks b) (next-entry a.list.now i c.loop-v-test.true (entry_at a.list.now i fits c.magnitude-code.ensures))) in
     drawing_on c.loop-v.invariant xs (run_marks b (drop (i + 1) l)) d c.lay_run.ensures
 
 pub returns : goal.returns
