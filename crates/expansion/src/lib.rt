@@ -97,7 +97,7 @@ impl<'a> Formed<'a> {
             return Err(Refusal::TooDeep);
         }
         let body = self.stores.look_by_headers(number);
-        if body.is_empty() {
+        if body.len() == 0 {
             return Ok(from);
         }
         if from.entered >= MOST_ENTERED {
