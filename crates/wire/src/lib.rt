@@ -136,8 +136,8 @@ pub fn copy(w: &[u8], out: &mut [u8], at: usize)
     ensures { out.new ≡ sets out.old at w.now }
 {
     let count = in_room(w.len(), out.len(), at);
-    for i in 0..count {
-        out[at + i] = w[i];
+    if at < out.len() {
+        out[at..at + count].copy_from_slice(&w[..count]);
     }
 }
 
