@@ -4,10 +4,11 @@ use mathlib.Core.Path.{◌≡◌, refl, sym, ◌∙◌, ap}
 use mathlib.Core.Bool.{Bool, true, false}
 use mathlib.Core.List.{List, [], ◌∷◌, ◌++◌, append_assoc}
 use native.Mathlib.Omega.{arith}
+use native.Mathlib.Numerals.{add-one}
 use borrow.Author.Tests.{le-leb, lt-leb, leb-true, leb-false}
 use lib.Dec.{leb}
-use lib.ListN.{length, take, drop, take-append-drop, length-append}
-use lib.Seq.{sets, sets-eq, take_all, drop-drop, length-sets, length-take-le}
+use lib.ListN.{length, get_or, take, drop, set, length-set, take-append-drop, length-append, drop_of_length-le}
+use lib.Seq.{sets, drop-cons, sets-eq, take_all, drop-drop, length-sets, length-take-le}
 use borrow.Rule.Slice.PartMut.{put_mid}
 use borrow.Author.Rules.{Fits-under}
 use mir.Syntax.{w64}
@@ -179,3 +180,36 @@ pub ruleset rooms = (at-past, no_room, has_room)
 pub ruleset ranged = (none_size, none_stand, pours_size, pours_stand)
 
 pub ruleset writings = (written-so, all_changed, none_changed)
+
+-- ---- laid one by one, as `characters` lays them
+
+-- what is left, laid from here, ends where the whole ends
+pub record Copying (w out₀ out : List ℕ) (at i : ℕ) : Type 0 where
+  pub upto : i ≤ length w
+  pub long : length out ≡ length out₀
+  pub whole : sets out (at + i) (drop i w) ≡ sets out₀ at w
+
+pub copying_none : (w out : List ℕ) (at : ℕ) → Copying w out out at 0
+copying_none w out at =
+    let z : at + 0 ≡ at = omega arith in
+    record { upto = omega arith; long = refl; whole = ap (λ (k : ℕ). sets out k w) z }
+
+pub copying_more : (w out₀ out : List ℕ) (at i : ℕ) {count : ℕ} → Copying w out₀ out at i → count ≡ in_room (length w) (length out₀) at → i < count → Copying w out₀ (set out (at + i) (get_or w i 0)) at (i + 1)
+copying_more w out₀ out at i f e k =
+    let h : i < length w = omega (arith, e, k) in
+    let b = get_or w i 0 in
+    let d : drop i w ≡ b ∷ drop (i + 1) w = drop-cons w i 0 h ∙ rw (add-one i) in
+    let z : at + (i + 1) ≡ at + i + 1 = omega arith in
+    record {
+      upto = omega arith;
+      long = length-set out (at + i) b ∙ f.long;
+      whole = rw (z, add-one (at + i)) (rw d at f.whole);
+    }
+
+-- where room was wanting, what is left lies behind the end
+pub copying_end : (w out₀ out : List ℕ) (at i : ℕ) {count : ℕ} → Copying w out₀ out at i → count ≡ in_room (length w) (length out₀) at → count ≤ i → out ≡ sets out₀ at w
+copying_end w out₀ out at i f e h = go (leb (length w) i) refl
+  where
+    go : (t : Bool) → leb (length w) i ≡ t → out ≡ sets out₀ at w
+    go true g = let d : drop i w ≡ [] = drop_of_length-le w (leb-true (length w) i g) in rw d at f.whole
+    go false g = sym (past_end out (at + i) (drop i w) (omega (arith, e, h, f.long, leb-false (length w) i g))) ∙ f.whole
