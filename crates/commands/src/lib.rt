@@ -206,8 +206,7 @@ pub fn read_command(
 fn skim_body(kept: Remembered, letters: TakenLetters, s: &[u8]) -> Result<TakenCommand, RefusedAt>
     ensures { command_of result ≡ told (body_at kept (letters_of letters) s.now 0 most_entries) }
 {
-    let mut none = [0; 1];
-    let taken = parameters::look_at(kept, letters.kind, s, letters.next, &mut none[..0])?;
+    let taken = parameters::look_at(kept, letters.kind, s, letters.next, &mut [])?;
     Ok(with_letters(letters.first, letters.second, taken))
 }
 

@@ -24,8 +24,8 @@ fn low_byte(high: u16, low: u8, place: usize, next: usize) -> Result<Taken<i32>,
     }
     Ok(Taken {
         value: signs::signed(mag, negative),
-        place: place,
-        next: next,
+        place,
+        next,
     })
 }
 
@@ -102,30 +102,21 @@ fn high_value(a: u8, b: u8) -> u16
 
 // Whether it is seen at once that an integer ends among the three bytes from `at` on and that each of its bytes is taken as it stands, in either
 // mode. Behind its low byte may stand what will, but a byte from 127 on: the last integer of a command has an ESC there.
+#[tactic(auto, using(crate::proofs::Ahead::endings))]
 fn ends_ahead(s: &[u8], at: usize) -> bool
     ensures { result ≡ ends_ahead s.now at }
 {
     let size = s.len();
-    if at >= size {
-        return false;
-    }
-    if size - at < 3 {
+    if at >= size || size - at < 3 {
         return false;
     }
     let a = s[at];
     let b = s[at + 1];
-    if a >= 127 {
-        return false;
-    }
-    if b >= 127 {
+    if a >= 127 || b >= 127 {
         return false;
     }
     let place = at + highs_before(a, b);
-    let low = s[place];
-    if low < 32 {
-        return false;
-    }
-    low < 64
+    (32..64).contains(&s[place])
 }
 
 // Such an integer.

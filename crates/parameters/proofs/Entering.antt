@@ -120,13 +120,10 @@ pub ruleset readings = (reading-none, reading-end, reading-all, reading_more, re
 
 -- ---- handing them over
 
-pub front_handed : (es l : List ℤ) (k : ℕ) {o : List ℤ} → k ≤ length es → k ≤ length l → o ≡ take k es → o ++ drop k l ≡ sets l 0 (take k es)
-front_handed es l k there room e =
-    let long : length (take k es) ≡ k = length-take-le k es there in
-    let z : k ≡ 0 + length (take k es) = omega (arith, long) in
-    ap (λ (w : List ℤ). w ++ drop k l) e
-    ∙ ap (λ (n : ℕ). take k es ++ drop n l) z
-    ∙ sym (sets-eq (take k es) l 0 (omega (arith, room, long)))
+pub front_handed : (es l : List ℤ) {o : List ℤ} → length es ≤ length l → o ≡ es → o ++ drop (length es) l ≡ sets l 0 es
+front_handed es l room e =
+    let z : length es ≡ 0 + length es = omega arith in
+    ap (λ (w : List ℤ). w ++ drop (length es) l) e ∙ ap (λ (n : ℕ). es ++ drop n l) z ∙ sym (sets-eq es l 0 (omega (arith, room)))
 
 pub record Handing (es : List ℤ) (k : ℕ) (l₀ l : List ℤ) (i : ℕ) : Type 0 where
   pub upto : i ≤ k
@@ -179,9 +176,6 @@ front-is es z k e h =
     ap (λ (m : List ℤ). take k m) (sets-eq es z 0 (omega (arith, e))) ∙ take_at es (drop (0 + length es) z) k e
 
 module _ (e : Entry) (kept : Remembered) (k : ℕ) (s : List ℕ) (at : ℕ) where
-  pub stored_there : (z : List ℤ) {es : List ℤ} → k ≤ 256 → length z ≡ 256 → es ≡ sets z 0 (entry_values e kept k s at) → k ≤ length es
-  stored_there z h y q = rw (q, length-sets z 0 (entry_values e kept k s at), y) h
-
   pub none_handed : (l : List ℤ) → length l < k → l ≡ list_behind e kept k s at l
   unfolding list_behind handed value_or
   none_handed l h = go (entries_end e kept k s at)
@@ -190,30 +184,31 @@ module _ (e : Entry) (kept : Remembered) (k : ℕ) (s : List ℕ) (at : ℕ) whe
       go (done n) = rw (lt-leb k (length l) h)
       go (refused x p) = refl
 
-  module _ {t : Result ℕ RefusedAt} (et : answer_at t ≡ entries_end e kept k s at) where
+  -- z is the list that they are read into
+  module _ (z : List ℤ) (long : length z ≡ k) {t : Result ℕ RefusedAt} (et : answer_at t ≡ entries_end e kept (length z) s at) where
     pub end_handed : {u : Result ℕ RefusedAt} → t ≡ u → answer_at u ≡ entries_end e kept k s at
-    end_handed h = sym (ap answer_at h) ∙ et
+    end_handed h = sym (ap answer_at h) ∙ (rw long at et)
 
     pub cut_handed : (l : List ℤ) {x : RefusedAt} → t ≡ Err x → l ≡ list_behind e kept k s at l
     unfolding list_behind answer_at value_or
-    cut_handed l h = rw (← et, h)
+    cut_handed l h = let so : answer_at t ≡ entries_end e kept k s at = rw long at et in rw (← so, h)
 
     ended : {m : ℕ} → t ≡ Ok m → entries_end e kept k s at ≡ done m
     unfolding answer_at
-    ended h = sym et ∙ rw h
+    ended h = let so : answer_at t ≡ entries_end e kept k s at = rw long at et in sym so ∙ rw h
 
-    pub all_handed : (l z : List ℤ) {es o : List ℤ} {m : ℕ} → t ≡ Ok m → k ≤ 256 → k ≤ length l → length z ≡ 256 → es ≡ sets z 0 (entry_values e kept k s at) → o ≡ sets l 0 (take k es) → o ≡ list_behind e kept k s at l
+    pub all_handed : (l : List ℤ) {es o : List ℤ} {m : ℕ} → t ≡ Ok m → k ≤ length l → es ≡ sets z 0 (entry_values e kept (length z) s at) → o ≡ sets l 0 es → o ≡ list_behind e kept k s at l
     unfolding list_behind handed value_or
-    all_handed l z h b room y q j =
+    all_handed l {es} h room q j =
         let all = entry_values e kept k s at in
-        let long : length all ≡ k = done-of (λ x. length (all_after (entry_at e kept s) k at) ≡ k) (all_read (entry_at e kept s) k at) (ended h) in
-        let front = front-is all z k long (omega (arith, y, b)) in
+        let many : length all ≡ k = done-of (λ x. length (all_after (entry_at e kept s) k at) ≡ k) (all_read (entry_at e kept s) k at) (ended h) in
+        let stored : es ≡ sets z 0 all = rw long at q in
+        let whole : sets z 0 all ≡ all = sym (take_all k (sets z 0 all) (omega (arith, length-sets z 0 all, long))) ∙ front-is all z k many (omega (arith, long)) in
         j
-        ∙ ap (λ (w : List ℤ). sets l 0 (take k w)) q
-        ∙ ap (λ (w : List ℤ). sets l 0 w) front
+        ∙ ap (λ (w : List ℤ). sets l 0 w) (stored ∙ whole)
         ∙ rw (ended h, le-leb k (length l) room)
 
-pub ruleset handed_over = (stored_there, none_handed, end_handed, cut_handed, all_handed)
+pub ruleset handed_over = (none_handed, end_handed, cut_handed, all_handed)
 
 -- ---- a count and that many entries
 

@@ -13,11 +13,12 @@ ghost use Rattle.parameters.specs.Numbers.{Holds};
 ghost use Rattle.parameters.specs.Looking.{two_entries_at, parsed_as, look_of, parameters_at, after_look};
 
 use memory::{Point, Remembered};
+use ranges::MOST_ENTRIES;
 use refusals::{Refusal, RefusedAt, Taken};
 use table::Kind;
 
 // What one entry is.
-#[derive(Clone, Copy, PartialEq, Eq)]
+#[derive(Clone, Copy)]
 pub enum Entry {
     AnInteger,
     ACharacter,
@@ -121,35 +122,34 @@ fn pass_entries(
     Ok(pos)
 }
 
-// The same, with their values into the front of the list.
+// The same, as many as the list holds, with their values into it.
 #[tactic(auto, using(crate::proofs::Entering::readings))]
 fn read_entries(
     kept: Remembered,
     entry: Entry,
-    count: usize,
     s: &[u8],
     at: usize,
-    list: &mut [i32; 256],
+    list: &mut [i32],
 ) -> Result<usize, RefusedAt>
-    requires { count ≤ 256 }
-    ensures { (answer_at result ≡ entries_end entry kept count s.now at) × (list.new ≡ sets list.old 0 (entry_values entry kept count s.now at)) }
+    ensures { (answer_at result ≡ entries_end entry kept (length list.old) s.now at) × (list.new ≡ sets list.old 0 (entry_values entry kept (length list.old) s.now at)) }
 {
     let mut pos = at;
-    for i in 0..count {
+    for value in list.iter_mut() {
         let taken = read_entry(kept, entry, s, pos)?;
-        list[i] = taken.value;
+        *value = taken.value;
         pos = taken.next;
     }
     Ok(pos)
 }
 
-// The first `count` entries into the front of the list.
+// The entries into the front of the list.
 #[tactic(auto, using(crate::proofs::Entering::front_handed))]
-fn hand_over(entries: &[i32; 256], count: usize, list: &mut [i32])
-    requires { (count ≤ 256) × ((count ≤ length entries.now) × (count ≤ length list.old)) }
-    ensures { list.new ≡ sets list.old 0 (take count entries.now) }
+fn hand_over(entries: &[i32], list: &mut [i32])
+    requires { length entries.now ≤ length list.old }
+    ensures { list.new ≡ sets list.old 0 entries.now }
 {
-    list[..count].copy_from_slice(&entries[..count]);
+    let count = entries.len();
+    list[..count].copy_from_slice(entries);
 }
 
 // So many entries from `at` on, which go to the list if they are whole.
@@ -165,9 +165,10 @@ fn hand_entries(
     requires { (count ≤ 256) × (count ≤ length list.old) }
     ensures { (answer_at result ≡ entries_end entry kept count s.now at) × (list.new ≡ list_behind entry kept count s.now at list.old) }
 {
-    let mut entries = [0; 256];
-    let end = read_entries(kept, entry, count, s, at, &mut entries)?;
-    hand_over(&entries, count, list);
+    let mut most = [0; MOST_ENTRIES];
+    let entries = &mut most[..count];
+    let end = read_entries(kept, entry, s, at, entries)?;
+    hand_over(entries, list);
     Ok(end)
 }
 
@@ -187,16 +188,8 @@ fn lay_characters(w: &[u8], list: &mut [i32])
 fn characters_ahead(kept: Remembered, count: usize, s: &[u8], at: usize) -> bool
     ensures { result ≡ characters_ahead kept count s.now at }
 {
-    let size = s.len();
-    if at > size {
-        return false;
-    }
-    if count > size - at {
-        return false;
-    }
     let mode = kept.mode;
-    let end = at + count;
-    wire::are_themselves(mode, &s[at..end])
+    at <= s.len() && count <= s.len() - at && wire::are_themselves(mode, &s[at..at + count])
 }
 
 // So many characters, straight from their bytes where each is taken as it stands.

@@ -12,7 +12,7 @@ use commands::TakenCommand;
 use memory::Remembered;
 use refusals::Refusal;
 
-#[derive(Clone, Copy, PartialEq, Eq)]
+#[derive(Clone, Copy)]
 pub enum Piece {
     // no item is left
     End,

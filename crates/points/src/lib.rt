@@ -14,7 +14,7 @@ use memory::{Point, Remembered};
 use refusals::{Refusal, RefusedAt, Taken};
 
 // The bytes of a point, in the order in which they are sent.
-#[derive(Clone, Copy, PartialEq, Eq)]
+#[derive(Clone, Copy)]
 pub struct PointBytes {
     pub hiy: u8,
     pub extra: u8,

@@ -47,7 +47,7 @@ fn pair(s: &[u8], esc: usize, place: usize) -> Result<Taken<u8>, RefusedAt>
     }
     Ok(Taken {
         value: 127,
-        place: place,
+        place,
         next: place + 1,
     })
 }
@@ -107,7 +107,7 @@ pub fn are_themselves(mode: DelMode, w: &[u8]) -> bool
     // with no way out of the middle several bytes are tested at once
     let mut good = true;
     for b in w {
-        good = good & is_itself(mode, *b);
+        good &= is_itself(mode, *b);
     }
     good
 }
@@ -117,10 +117,7 @@ pub fn are_themselves(mode: DelMode, w: &[u8]) -> bool
 pub fn room_for(size: usize, room: usize, at: usize) -> Result<usize, Refusal>
     ensures { answer_of result ≡ room_for size room at }
 {
-    if at > room {
-        return Err(Refusal::TooShort);
-    }
-    if size > room - at {
+    if at > room || size > room - at {
         return Err(Refusal::TooShort);
     }
     Ok(at + size)
@@ -139,8 +136,8 @@ pub fn copy(w: &[u8], out: &mut [u8], at: usize)
     ensures { out.new ≡ sets out.old at w.now }
 {
     let count = in_room(w.len(), out.len(), at);
-    for i in 0..count {
-        out[at + i] = w[i];
+    if at < out.len() {
+        out[at..at + count].copy_from_slice(&w[..count]);
     }
 }
 
