@@ -30,7 +30,7 @@ pub struct DelItem {
     pub next: usize,
 }
 
-// It is no Option in a Result: `lines::put_line` answers on each of these, and the calls for other languages number them.
+// It is no Option in a Result: `lines::put_line` answers on each of these, and rows of the sheet hold it to that (crates/sheet/specs/LineRows.antt).
 #[derive(Clone, Copy)]
 pub enum Item {
     // no item is left
