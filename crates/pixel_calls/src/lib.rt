@@ -75,7 +75,7 @@ fn hand(fields: &mut [usize; 7], came: Beam, setting: Result<Beam, Refusal>) -> 
     }
 }
 
-// The same of a write, with the number of pixels.
+// The same of a write, with the number of pixels. One function for both would hand a number of pixels back to five calls that have none.
 #[tactic(auto, unfolding(pixels::specs::Writes::drawn_by))]
 fn hand_written(
     fields: &mut [usize; 7],

@@ -8,6 +8,7 @@ ghost use Rattle.ranges.specs.Ranges.{within};
 // "An array or string in one command has at most 256 entries"; report strings have a limit of their own.
 pub const MOST_ENTRIES: usize = 256;
 
+// Both ends are two words at a call, here and in `reports`: a range would be made at each call to be taken apart in the promise.
 #[tactic(auto, using(crate::proofs::Entries::ranges))]
 pub fn is_within(least: u32, most: u32, v: i32) -> bool
     ensures { result ≡ within least most v }

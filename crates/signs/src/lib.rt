@@ -4,7 +4,8 @@
 ghost use Rattle.std.specs.Prelude.{◌≡◌, nat_abs};
 ghost use Rattle.signs.specs.Signs.{signed_of, is_negative, most_magnitude, is_integer};
 
-// The number of a magnitude and a sign. Any magnitude of 16 bits has room, so nothing is negated in 16 bits.
+// The number of a magnitude and a sign. Any magnitude of 16 bits has room, so nothing is negated in 16 bits. The two go side by side in all that
+// handles them: a magnitude has 16 bits where it was read and 32 where it is to be written, and no one struct has both.
 pub fn signed(mag: u16, negative: bool) -> i32
     ensures { result ≡ signed_of mag negative }
 {

@@ -40,7 +40,7 @@ fn pour_magnitude(kept: Remembered, mag: u32, negative: bool, out: &mut [u8], at
     wire::pour_three(kept, first, last, low, out, at)
 }
 
-// The same where each byte is sent as itself: no byte is asked whether it is a 127.
+// The same where each byte is sent as itself: no byte is asked whether it is a 127. One function of both, which asks, was slower (docs/BENCHMARKS.md).
 #[tactic(auto, using(crate::proofs::Pouring::layings))]
 fn lay_magnitude(mag: u32, negative: bool, out: &mut [u8], at: usize) -> usize
     requires { mag ≤ 32768 }

@@ -44,7 +44,8 @@ pub enum Item {
     Refused(RefusedAt),
 }
 
-// The first place from `at` on that holds an ESC, or the end.
+// The first place from `at` on that holds an ESC, or the end. `wire::behind_dels` is the same loop with another test: one function of both would take
+// the test as a closure, with a promise about it, which is no plainer than these four lines.
 #[tactic(auto, using(crate::proofs::Reading::passing))]
 fn next_escape(s: &[u8], at: usize) -> usize
     ensures { result ≡ passed_from s.now at }

@@ -46,7 +46,8 @@ struct Row {
     kind: Kind,
 }
 
-// The row of a command.
+// The row of a command. The two letters go side by side, here and in all that handles them, and not as a struct: they come as two bytes, each is asked
+// for by itself, and the definitions have them as two numbers: a struct would be taken apart in every function and every promise.
 fn command(first: u8, second: u8, kind: Kind) -> Row
     ensures { result ≡ record { first = first; second = second; kind = kind } }
 {
