@@ -21,7 +21,7 @@ const DEEPEST: usize = 8;
 const MOST_ENTERED: usize = 1024;
 
 // How far an expansion has come: "bytes written and macros entered", and what is remembered behind them.
-#[derive(Clone, Copy, PartialEq, Eq)]
+#[derive(Clone, Copy)]
 pub struct Expanded {
     pub written: usize,
     pub entered: usize,
