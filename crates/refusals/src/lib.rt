@@ -74,7 +74,7 @@ impl Refusal {
     {
         RefusedAt {
             refusal: self,
-            place: place,
+            place,
         }
     }
 }
