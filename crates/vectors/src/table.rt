@@ -2,7 +2,6 @@
 use crate::{digest, front};
 use std::io;
 use std::io::{Read, Write};
-use wire::Source;
 
 // No integer has more bytes.
 const MOST: usize = 8;
@@ -77,8 +76,7 @@ fn is_written_so(v: i32, bytes: &[u8]) -> bool {
 
 // Whether the bytes read back as the value, "with nothing left over".
 fn is_read_so(v: i32, bytes: &[u8]) -> bool {
-    let kept = memory::fresh();
-    let read = numbers::read_integer(Source { kept, bytes, at: 0 });
+    let read = numbers::read_integer(memory::fresh(), bytes, 0);
     matches!(read, Ok(found) if found.next == bytes.len() && found.value == v)
 }
 

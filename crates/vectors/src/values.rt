@@ -4,7 +4,6 @@ use memory::{DelMode, Point, Remembered};
 use refusals::Refusal;
 use std::io;
 use std::io::Write;
-use wire::Source;
 
 // What was written into `out` from its front on, and the line's end.
 fn written<W: Write>(writer: &mut W, answer: Result<usize, Refusal>, out: &[u8]) -> io::Result<()> {
@@ -42,11 +41,10 @@ fn point<W: Write>(writer: &mut W, to: Point, from: Point) -> io::Result<()> {
     written(writer, answer, &out)
 }
 
-fn read<W: Write>(writer: &mut W, bytes: &[u8]) -> io::Result<()> {
+fn read<W: Write>(writer: &mut W, s: &[u8]) -> io::Result<()> {
     write!(writer, "read")?;
-    print::bytes(writer, bytes)?;
-    let kept = memory::fresh();
-    match numbers::read_integer(Source { kept, bytes, at: 0 }) {
+    print::bytes(writer, s)?;
+    match numbers::read_integer(memory::fresh(), s, 0) {
         Ok(integer) => writeln!(writer, " = {}", integer.value),
         Err(e) => writeln!(writer, " = refusal {} at {}", e.refusal.number(), e.place),
     }
