@@ -12,7 +12,6 @@ use memory::{DelMode, Remembered};
 use parameters::{Parameters, TakenParameters};
 use refusals::{Refusal, RefusedAt, Taken};
 use table::Kind;
-use wire::Source;
 
 #[derive(Clone, Copy)]
 pub struct Command {
@@ -175,15 +174,7 @@ fn body(
     ensures { (command_of result ≡ told (body_at kept (letters_of letters) s.now start (length list.old))) × (list.new ≡ after_entries (body_at kept (letters_of letters) s.now start (length list.old)) list.old) }
 {
     let room = list.len();
-    let taken = parameters::look_at(
-        Source {
-            kept,
-            bytes: s,
-            at: letters.next,
-        },
-        letters.kind,
-        list,
-    )?;
+    let taken = parameters::look_at(kept, letters.kind, s, letters.next, list)?;
     if taken.run.count > room {
         return Err(Refusal::TooShort.at(start));
     }
@@ -215,15 +206,7 @@ pub fn read_command(
 fn skim_body(kept: Remembered, letters: TakenLetters, s: &[u8]) -> Result<TakenCommand, RefusedAt>
     ensures { command_of result ≡ told (body_at kept (letters_of letters) s.now 0 most_entries) }
 {
-    let taken = parameters::look_at(
-        Source {
-            kept,
-            bytes: s,
-            at: letters.next,
-        },
-        letters.kind,
-        &mut [],
-    )?;
+    let taken = parameters::look_at(kept, letters.kind, s, letters.next, &mut [])?;
     Ok(with_letters(letters.first, letters.second, taken))
 }
 

@@ -7,9 +7,9 @@ ghost use Rattle.numbers.specs.Integers.{low_byte, integer_from, integer_at};
 ghost use Rattle.numbers.specs.Three.{highs_before, high_value, ends_ahead};
 ghost use Rattle.numbers.specs.Counts.{count_in, count_at};
 
+use memory::Remembered;
 use ranges::MOST_ENTRIES;
 use refusals::{Refusal, RefusedAt, Taken};
-use wire::Source;
 
 // The low byte `low` after high bytes of value `high`.
 #[tactic(auto, using(crate::proofs::Reading::low_in))]
@@ -31,11 +31,11 @@ fn low_byte(high: u16, low: u8, place: usize, next: usize) -> Result<Taken<i32>,
 
 // The low byte, where two high bytes of value `high` stand before it.
 #[tactic(auto, using(crate::proofs::Reading::low_step, crate::proofs::Reading::third_step, crate::proofs::Reading::no_step))]
-fn after_two(source: Source, high: u16) -> Result<Taken<i32>, RefusedAt>
+fn after_two(kept: Remembered, s: &[u8], at: usize, high: u16) -> Result<Taken<i32>, RefusedAt>
     requires { high < 4096 }
-    ensures { answer_at result ≡ integer_from source.entry.kept 0 high source.entry.bytes.now source.entry.at }
+    ensures { answer_at result ≡ integer_from kept 0 high s.now at }
 {
-    let byte = source.take()?;
+    let byte = wire::take(kept, s, at)?;
     if byte.value < 64 {
         return low_byte(high, byte.value, byte.place, byte.next);
     }
@@ -44,29 +44,29 @@ fn after_two(source: Source, high: u16) -> Result<Taken<i32>, RefusedAt>
 
 // The rest of an integer, where one high byte of value `high` stands before it.
 #[tactic(auto, using(crate::proofs::Reading::low_step, crate::proofs::Reading::second_step, crate::proofs::Reading::no_step))]
-fn after_one(source: Source, high: u16) -> Result<Taken<i32>, RefusedAt>
+fn after_one(kept: Remembered, s: &[u8], at: usize, high: u16) -> Result<Taken<i32>, RefusedAt>
     requires { high < 64 }
-    ensures { answer_at result ≡ integer_from source.entry.kept 1 high source.entry.bytes.now source.entry.at }
+    ensures { answer_at result ≡ integer_from kept 1 high s.now at }
 {
-    let byte = source.take()?;
+    let byte = wire::take(kept, s, at)?;
     if byte.value < 64 {
         return low_byte(high, byte.value, byte.place, byte.next);
     }
     let higher = high * 64 + u16::from(byte.value % 64);
-    after_two(source.from(byte.next), higher)
+    after_two(kept, s, byte.next, higher)
 }
 
 // An integer byte by byte.
 #[tactic(auto, using(crate::proofs::Reading::low_step, crate::proofs::Reading::first_step, crate::proofs::Reading::no_step))]
-fn by_bytes(source: Source) -> Result<Taken<i32>, RefusedAt>
-    ensures { answer_at result ≡ integer_at source.entry.kept source.entry.bytes.now source.entry.at }
+fn by_bytes(kept: Remembered, s: &[u8], at: usize) -> Result<Taken<i32>, RefusedAt>
+    ensures { answer_at result ≡ integer_at kept s.now at }
 {
-    let byte = source.take()?;
+    let byte = wire::take(kept, s, at)?;
     if byte.value < 64 {
         return low_byte(0, byte.value, byte.place, byte.next);
     }
     let high = u16::from(byte.value % 64);
-    after_one(source.from(byte.next), high)
+    after_one(kept, s, byte.next, high)
 }
 
 // How many high bytes stand before the low byte, by the two bytes that come first. It is a sum: which number it will be is not to be
@@ -120,27 +120,26 @@ fn ends_ahead(s: &[u8], at: usize) -> bool
 }
 
 // Such an integer.
-fn among_three(source: Source) -> Result<Taken<i32>, RefusedAt>
-    requires { ends_ahead source.bytes.now source.at ≡ true }
-    ensures { answer_at result ≡ integer_at source.entry.kept source.entry.bytes.now source.entry.at }
+fn among_three(kept: Remembered, s: &[u8], at: usize) -> Result<Taken<i32>, RefusedAt>
+    requires { ends_ahead s.now at ≡ true }
+    ensures { answer_at result ≡ integer_at kept s.now at }
 {
-    let Source { bytes, at, .. } = source;
-    let a = bytes[at];
-    let b = bytes[at + 1];
+    let a = s[at];
+    let b = s[at + 1];
     let place = at + highs_before(a, b);
-    let low = bytes[place];
+    let low = s[place];
     let next = place + 1;
     low_byte(high_value(a, b), low, place, next)
 }
 
 #[tactic(auto, using(crate::proofs::Ahead::ahead_told))]
-pub fn read_integer(source: Source) -> Result<Taken<i32>, RefusedAt>
-    ensures { answer_at result ≡ integer_at source.entry.kept source.entry.bytes.now source.entry.at }
+pub fn read_integer(kept: Remembered, s: &[u8], at: usize) -> Result<Taken<i32>, RefusedAt>
+    ensures { answer_at result ≡ integer_at kept s.now at }
 {
-    if ends_ahead(source.bytes, source.at) {
-        return among_three(source);
+    if ends_ahead(s, at) {
+        return among_three(kept, s, at);
     }
-    by_bytes(source)
+    by_bytes(kept, s, at)
 }
 
 // An integer that was read, as a count of at most `most`.
@@ -165,8 +164,8 @@ pub fn as_count(read: Result<Taken<i32>, RefusedAt>, most: usize) -> Result<Take
 }
 
 #[tactic(auto, using(crate::proofs::Reading::counted))]
-pub fn read_count(source: Source) -> Result<Taken<usize>, RefusedAt>
-    ensures { answer_at result ≡ count_at source.entry.kept source.entry.bytes.now source.entry.at }
+pub fn read_count(kept: Remembered, s: &[u8], at: usize) -> Result<Taken<usize>, RefusedAt>
+    ensures { answer_at result ≡ count_at kept s.now at }
 {
-    as_count(read_integer(source), MOST_ENTRIES)
+    as_count(read_integer(kept, s, at), MOST_ENTRIES)
 }

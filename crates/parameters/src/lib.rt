@@ -14,9 +14,8 @@ ghost use Rattle.parameters.specs.Looking.{two_entries_at, parsed_as, look_of, p
 
 use memory::{Point, Remembered};
 use ranges::MOST_ENTRIES;
-use refusals::{RefusedAt, Taken};
+use refusals::{Refusal, RefusedAt, Taken};
 use table::Kind;
-use wire::Source;
 
 // What one entry is.
 #[derive(Clone, Copy)]
@@ -83,10 +82,10 @@ pub struct TwoEntries {
 // ---- entries
 
 #[tactic(auto, unfolding(refusals::specs::Answers::answer_at, crate::specs::Entries::entry_at))]
-fn read_character(source: Source) -> Result<Taken<i32>, RefusedAt>
-    ensures { answer_at result ≡ entry_at Entry.ACharacter source.entry.kept source.entry.bytes.now source.entry.at }
+fn read_character(kept: Remembered, s: &[u8], at: usize) -> Result<Taken<i32>, RefusedAt>
+    ensures { answer_at result ≡ entry_at Entry.ACharacter kept s.now at }
 {
-    let byte = source.take()?;
+    let byte = wire::take(kept, s, at)?;
     Ok(Taken {
         value: characters::entry_of(byte.value),
         place: byte.place,
@@ -96,39 +95,51 @@ fn read_character(source: Source) -> Result<Taken<i32>, RefusedAt>
 
 // An integer, or a character as a number.
 #[tactic(auto, unfolding(crate::specs::Entries::entry_at))]
-fn read_entry(source: Source, entry: Entry) -> Result<Taken<i32>, RefusedAt>
-    ensures { answer_at result ≡ entry_at entry source.entry.kept source.entry.bytes.now source.entry.at }
+fn read_entry(kept: Remembered, entry: Entry, s: &[u8], at: usize) -> Result<Taken<i32>, RefusedAt>
+    ensures { answer_at result ≡ entry_at entry kept s.now at }
 {
     match entry {
-        Entry::AnInteger => numbers::read_integer(source),
-        Entry::ACharacter => read_character(source),
+        Entry::AnInteger => numbers::read_integer(kept, s, at),
+        Entry::ACharacter => read_character(kept, s, at),
     }
 }
 
 // So many entries from `at` on: where they end, or the first that is refused. Apart from `read_entries`, which needs an array to store them in.
 #[tactic(auto, using(crate::proofs::Entering::passings))]
-fn pass_entries(source: Source, entry: Entry, count: usize) -> Result<usize, RefusedAt>
-    ensures { answer_at result ≡ entries_end entry source.entry.kept count source.entry.bytes.now source.entry.at }
+fn pass_entries(
+    kept: Remembered,
+    entry: Entry,
+    count: usize,
+    s: &[u8],
+    at: usize,
+) -> Result<usize, RefusedAt>
+    ensures { answer_at result ≡ entries_end entry kept count s.now at }
 {
-    let mut rest = source;
+    let mut pos = at;
     for _ in 0..count {
-        rest.at = read_entry(rest, entry)?.next;
+        pos = read_entry(kept, entry, s, pos)?.next;
     }
-    Ok(rest.at)
+    Ok(pos)
 }
 
 // The same, as many as the list holds, with their values into it.
 #[tactic(auto, using(crate::proofs::Entering::readings))]
-fn read_entries(source: Source, entry: Entry, list: &mut [i32]) -> Result<usize, RefusedAt>
-    ensures { (answer_at result ≡ entries_end entry source.entry.kept (length list.old) source.entry.bytes.now source.entry.at) × (list.new ≡ sets list.old 0 (entry_values entry source.entry.kept (length list.old) source.entry.bytes.now source.entry.at)) }
+fn read_entries(
+    kept: Remembered,
+    entry: Entry,
+    s: &[u8],
+    at: usize,
+    list: &mut [i32],
+) -> Result<usize, RefusedAt>
+    ensures { (answer_at result ≡ entries_end entry kept (length list.old) s.now at) × (list.new ≡ sets list.old 0 (entry_values entry kept (length list.old) s.now at)) }
 {
-    let mut rest = source;
+    let mut pos = at;
     for value in list.iter_mut() {
-        let taken = read_entry(rest, entry)?;
+        let taken = read_entry(kept, entry, s, pos)?;
         *value = taken.value;
-        rest.at = taken.next;
+        pos = taken.next;
     }
-    Ok(rest.at)
+    Ok(pos)
 }
 
 // The entries into the front of the list.
@@ -144,17 +155,19 @@ fn hand_over(entries: &[i32], list: &mut [i32])
 // So many entries from `at` on, which go to the list if they are whole.
 #[tactic(auto, using(crate::proofs::Entering::handed_over))]
 fn hand_entries(
-    source: Source,
+    kept: Remembered,
     entry: Entry,
     count: usize,
+    s: &[u8],
+    at: usize,
     list: &mut [i32],
 ) -> Result<usize, RefusedAt>
     requires { (count ≤ 256) × (count ≤ length list.old) }
-    ensures { (answer_at result ≡ entries_end entry source.entry.kept count source.entry.bytes.now source.entry.at) × (list.new ≡ list_behind entry source.entry.kept count source.entry.bytes.now source.entry.at list.old) }
+    ensures { (answer_at result ≡ entries_end entry kept count s.now at) × (list.new ≡ list_behind entry kept count s.now at list.old) }
 {
     let mut most = [0; MOST_ENTRIES];
     let entries = &mut most[..count];
-    let end = read_entries(source, entry, entries)?;
+    let end = read_entries(kept, entry, s, at, entries)?;
     hand_over(entries, list);
     Ok(end)
 }
@@ -172,56 +185,68 @@ fn lay_characters(w: &[u8], list: &mut [i32])
 
 // Whether so many characters stand from `at` on, each of which is taken as it stands.
 #[tactic(auto, using(crate::proofs::Entering::aheads))]
-fn characters_ahead(source: Source, count: usize) -> bool
-    ensures { result ≡ characters_ahead source.entry.kept count source.entry.bytes.now source.entry.at }
+fn characters_ahead(kept: Remembered, count: usize, s: &[u8], at: usize) -> bool
+    ensures { result ≡ characters_ahead kept count s.now at }
 {
-    let Source { kept, bytes, at } = source;
-    at <= bytes.len()
-        && count <= bytes.len() - at
-        && wire::are_themselves(kept.mode, &bytes[at..at + count])
+    let mode = kept.mode;
+    at <= s.len() && count <= s.len() - at && wire::are_themselves(mode, &s[at..at + count])
 }
 
 // So many characters, straight from their bytes where each is taken as it stands.
 #[tactic(auto, using(crate::proofs::Entering::strings, crate::proofs::Entering::characters_few))]
-fn hand_characters(source: Source, count: usize, list: &mut [i32]) -> Result<usize, RefusedAt>
+fn hand_characters(
+    kept: Remembered,
+    count: usize,
+    s: &[u8],
+    at: usize,
+    list: &mut [i32],
+) -> Result<usize, RefusedAt>
     requires { (count ≤ 256) × (count ≤ length list.old) }
-    ensures { (answer_at result ≡ entries_end Entry.ACharacter source.entry.kept count source.entry.bytes.now source.entry.at) × (list.new ≡ list_behind Entry.ACharacter source.entry.kept count source.entry.bytes.now source.entry.at list.old) }
+    ensures { (answer_at result ≡ entries_end Entry.ACharacter kept count s.now at) × (list.new ≡ list_behind Entry.ACharacter kept count s.now at list.old) }
 {
-    if characters_ahead(source, count) {
-        let end = source.at + count;
-        lay_characters(&source.bytes[source.at..end], list);
+    if characters_ahead(kept, count, s, at) {
+        let end = at + count;
+        lay_characters(&s[at..end], list);
         return Ok(end);
     }
-    hand_entries(source, Entry::ACharacter, count, list)
+    hand_entries(kept, Entry::ACharacter, count, s, at, list)
 }
 
 // So many entries, which are only passed over where the list has no room for them.
 #[tactic(auto, using(crate::proofs::Entering::handed_over, crate::proofs::Entering::kinds))]
 fn entries_into(
-    source: Source,
+    kept: Remembered,
     entry: Entry,
     count: usize,
+    s: &[u8],
+    at: usize,
     list: &mut [i32],
 ) -> Result<usize, RefusedAt>
     requires { count ≤ 256 }
-    ensures { (answer_at result ≡ entries_end entry source.entry.kept count source.entry.bytes.now source.entry.at) × (list.new ≡ list_behind entry source.entry.kept count source.entry.bytes.now source.entry.at list.old) }
+    ensures { (answer_at result ≡ entries_end entry kept count s.now at) × (list.new ≡ list_behind entry kept count s.now at list.old) }
 {
     if count > list.len() {
-        return pass_entries(source, entry, count);
+        return pass_entries(kept, entry, count, s, at);
     }
     match entry {
-        Entry::AnInteger => hand_entries(source, entry, count, list),
-        Entry::ACharacter => hand_characters(source, count, list),
+        Entry::AnInteger => hand_entries(kept, entry, count, s, at, list),
+        Entry::ACharacter => hand_characters(kept, count, s, at, list),
     }
 }
 
 // A count and that many entries: a string or an array.
 #[tactic(auto, using(crate::proofs::Entering::count_few), unfolding(refusals::specs::Answers::answer_at, crate::specs::Entries::run_at, crate::specs::Entries::after_run, crate::specs::Entries::list_behind, refusals::specs::Answers::value_or))]
-fn read_run(source: Source, entry: Entry, list: &mut [i32]) -> Result<CountedRun, RefusedAt>
-    ensures { (answer_at result ≡ run_at entry source.entry.kept source.entry.bytes.now source.entry.at) × (list.new ≡ after_run entry source.entry.kept source.entry.bytes.now (run_at entry source.entry.kept source.entry.bytes.now source.entry.at) list.old) }
+fn read_run(
+    kept: Remembered,
+    entry: Entry,
+    s: &[u8],
+    at: usize,
+    list: &mut [i32],
+) -> Result<CountedRun, RefusedAt>
+    ensures { (answer_at result ≡ run_at entry kept s.now at) × (list.new ≡ after_run entry kept s.now (run_at entry kept s.now at) list.old) }
 {
-    let count = numbers::read_count(source)?;
-    let next = entries_into(source.from(count.next), entry, count.value, list)?;
+    let count = numbers::read_count(kept, s, at)?;
+    let next = entries_into(kept, entry, count.value, s, count.next, list)?;
     Ok(CountedRun {
         start: count.next,
         count: count.value,
@@ -249,11 +274,11 @@ fn without_list(parameters: Parameters, next: usize, kept: Remembered) -> TakenP
 }
 
 #[tactic(auto, unfolding(refusals::specs::Answers::answer_at, crate::specs::Looking::two_entries_at))]
-fn two_entries(source: Source, entry: Entry) -> Result<TwoEntries, RefusedAt>
-    ensures { answer_at result ≡ two_entries_at entry source.entry.kept source.entry.bytes.now source.entry.at }
+fn two_entries(kept: Remembered, entry: Entry, s: &[u8], at: usize) -> Result<TwoEntries, RefusedAt>
+    ensures { answer_at result ≡ two_entries_at entry kept s.now at }
 {
-    let a = read_entry(source, entry)?;
-    let b = read_entry(source.from(a.next), entry)?;
+    let a = read_entry(kept, entry, s, at)?;
+    let b = read_entry(kept, entry, s, a.next)?;
     Ok(TwoEntries {
         one: a.value,
         two: b.value,
@@ -262,80 +287,72 @@ fn two_entries(source: Source, entry: Entry) -> Result<TwoEntries, RefusedAt>
 }
 
 #[tactic(auto, unfolding(refusals::specs::Answers::answer_at, crate::specs::Looking::look_of, crate::specs::Looking::parameters_at, crate::specs::Looking::fixed_at, crate::specs::Looking::part_at, crate::specs::Looking::tail_at, crate::specs::Entries::entry_at))]
-fn look_one_integer(source: Source) -> Result<TakenParameters, RefusedAt>
-    ensures { look_of result ≡ parameters_at source.entry.kept (shape_of one_integer) source.entry.bytes.now source.entry.at }
+fn look_one_integer(kept: Remembered, s: &[u8], at: usize) -> Result<TakenParameters, RefusedAt>
+    ensures { look_of result ≡ parameters_at kept (shape_of one_integer) s.now at }
 {
-    let a = numbers::read_integer(source)?;
-    Ok(without_list(Parameters::OneInteger(a.value), a.next, source.kept))
+    let a = numbers::read_integer(kept, s, at)?;
+    Ok(without_list(Parameters::OneInteger(a.value), a.next, kept))
 }
 
 #[tactic(auto, unfolding(refusals::specs::Answers::answer_at, crate::specs::Looking::look_of, crate::specs::Looking::parameters_at, crate::specs::Looking::fixed_at, crate::specs::Looking::part_at, crate::specs::Looking::tail_at, crate::specs::Looking::two_entries_at))]
-fn look_two_integers(source: Source) -> Result<TakenParameters, RefusedAt>
-    ensures { look_of result ≡ parameters_at source.entry.kept (shape_of two_integers) source.entry.bytes.now source.entry.at }
+fn look_two_integers(kept: Remembered, s: &[u8], at: usize) -> Result<TakenParameters, RefusedAt>
+    ensures { look_of result ≡ parameters_at kept (shape_of two_integers) s.now at }
 {
-    let read = two_entries(source, Entry::AnInteger)?;
-    Ok(without_list(
-        Parameters::TwoIntegers(read.one, read.two),
-        read.next,
-        source.kept,
-    ))
+    let read = two_entries(kept, Entry::AnInteger, s, at)?;
+    Ok(without_list(Parameters::TwoIntegers(read.one, read.two), read.next, kept))
 }
 
 #[tactic(auto, unfolding(refusals::specs::Answers::answer_at, crate::specs::Looking::look_of, crate::specs::Looking::parameters_at, crate::specs::Looking::fixed_at, crate::specs::Looking::part_at, crate::specs::Looking::tail_at))]
-fn look_real(source: Source) -> Result<TakenParameters, RefusedAt>
-    ensures { look_of result ≡ parameters_at source.entry.kept (shape_of a_real) source.entry.bytes.now source.entry.at }
+fn look_real(kept: Remembered, s: &[u8], at: usize) -> Result<TakenParameters, RefusedAt>
+    ensures { look_of result ≡ parameters_at kept (shape_of a_real) s.now at }
 {
-    let read = two_entries(source, Entry::AnInteger)?;
+    let read = two_entries(kept, Entry::AnInteger, s, at)?;
     let real = Real {
         mantissa: read.one,
         exponent: read.two,
     };
-    Ok(without_list(Parameters::AReal(real), read.next, source.kept))
+    Ok(without_list(Parameters::AReal(real), read.next, kept))
 }
 
 #[tactic(auto, unfolding(refusals::specs::Answers::answer_at, crate::specs::Looking::look_of, crate::specs::Looking::parameters_at, crate::specs::Looking::fixed_at, crate::specs::Looking::part_at, crate::specs::Looking::tail_at, crate::specs::Looking::two_entries_at))]
-fn look_two_characters(source: Source) -> Result<TakenParameters, RefusedAt>
-    ensures { look_of result ≡ parameters_at source.entry.kept (shape_of two_characters) source.entry.bytes.now source.entry.at }
+fn look_two_characters(kept: Remembered, s: &[u8], at: usize) -> Result<TakenParameters, RefusedAt>
+    ensures { look_of result ≡ parameters_at kept (shape_of two_characters) s.now at }
 {
-    let read = two_entries(source, Entry::ACharacter)?;
+    let read = two_entries(kept, Entry::ACharacter, s, at)?;
     Ok(without_list(
         Parameters::TwoCharacters(read.one, read.two),
         read.next,
-        source.kept,
+        kept,
     ))
 }
 
 #[tactic(auto, unfolding(refusals::specs::Answers::answer_at, crate::specs::Looking::look_of, crate::specs::Looking::parameters_at, crate::specs::Looking::fixed_at, crate::specs::Looking::part_at, crate::specs::Looking::tail_at, crate::specs::Looking::two_entries_at, crate::specs::Entries::entry_at))]
-fn look_three_integers(source: Source) -> Result<TakenParameters, RefusedAt>
-    ensures { look_of result ≡ parameters_at source.entry.kept (shape_of three_integers) source.entry.bytes.now source.entry.at }
+fn look_three_integers(kept: Remembered, s: &[u8], at: usize) -> Result<TakenParameters, RefusedAt>
+    ensures { look_of result ≡ parameters_at kept (shape_of three_integers) s.now at }
 {
-    let read = two_entries(source, Entry::AnInteger)?;
-    let third = numbers::read_integer(source.from(read.next))?;
+    let read = two_entries(kept, Entry::AnInteger, s, at)?;
+    let third = numbers::read_integer(kept, s, read.next)?;
     let parameters = Parameters::ThreeIntegers(read.one, read.two, third.value);
-    Ok(without_list(parameters, third.next, source.kept))
+    Ok(without_list(parameters, third.next, kept))
 }
 
 #[tactic(auto, unfolding(refusals::specs::Answers::answer_at, crate::specs::Looking::look_of, crate::specs::Looking::parameters_at, crate::specs::Looking::fixed_at, crate::specs::Looking::part_at, crate::specs::Looking::tail_at))]
-fn look_one_point(source: Source) -> Result<TakenParameters, RefusedAt>
-    ensures { look_of result ≡ parameters_at source.entry.kept (shape_of one_point) source.entry.bytes.now source.entry.at }
+fn look_one_point(kept: Remembered, s: &[u8], at: usize) -> Result<TakenParameters, RefusedAt>
+    ensures { look_of result ≡ parameters_at kept (shape_of one_point) s.now at }
 {
-    let read = points::read_point(source)?;
-    let behind = memory::with_point(source.kept, read.value);
+    let read = points::read_point(kept, s, at)?;
+    let behind = memory::with_point(kept, read.value);
     Ok(without_list(Parameters::OnePoint(read.value), read.next, behind))
 }
 
 // The second point follows from the first.
 #[tactic(auto, unfolding(refusals::specs::Answers::answer_at, crate::specs::Looking::look_of, crate::specs::Looking::parameters_at, crate::specs::Looking::fixed_at, crate::specs::Looking::part_at, crate::specs::Looking::tail_at))]
-fn look_two_points(source: Source) -> Result<TakenParameters, RefusedAt>
-    ensures { look_of result ≡ parameters_at source.entry.kept (shape_of two_points) source.entry.bytes.now source.entry.at }
+fn look_two_points(kept: Remembered, s: &[u8], at: usize) -> Result<TakenParameters, RefusedAt>
+    ensures { look_of result ≡ parameters_at kept (shape_of two_points) s.now at }
 {
-    let first = points::read_point(source)?;
-    let then = memory::with_point(source.kept, first.value);
-    let second = points::read_point(Source {
-        kept: then,
-        at: first.next,
-        ..source
-    })?;
+    let first = points::read_point(kept, s, at)?;
+    let then = memory::with_point(kept, first.value);
+    let second = points::read_point(then, s, first.next)?;
     let parameters = Parameters::TwoPoints(first.value, second.value);
     let behind = memory::with_point(then, second.value);
     Ok(without_list(parameters, second.next, behind))
@@ -361,53 +378,67 @@ fn integer_then_list(a: i32, entry: Entry) -> Parameters
 
 // The parameters that are a string or an array alone.
 #[tactic(auto, unfolding(refusals::specs::Answers::answer_at, crate::specs::Looking::look_of, crate::specs::Looking::parameters_at, crate::specs::Looking::fixed_at, crate::specs::Looking::part_at, crate::specs::Looking::tail_at, crate::specs::Looking::after_look, crate::specs::Entries::after_run))]
-fn look_list(source: Source, entry: Entry, list: &mut [i32]) -> Result<TakenParameters, RefusedAt>
-    ensures { (look_of result ≡ parameters_at source.entry.kept (list_shape entry) source.entry.bytes.now source.entry.at) × (list.new ≡ after_look source.entry.bytes.now (parameters_at source.entry.kept (list_shape entry) source.entry.bytes.now source.entry.at) list.old) }
+fn look_list(
+    kept: Remembered,
+    entry: Entry,
+    s: &[u8],
+    at: usize,
+    list: &mut [i32],
+) -> Result<TakenParameters, RefusedAt>
+    ensures { (look_of result ≡ parameters_at kept (list_shape entry) s.now at) × (list.new ≡ after_look s.now (parameters_at kept (list_shape entry) s.now at) list.old) }
 {
-    let run = read_run(source, entry, list)?;
+    let run = read_run(kept, entry, s, at, list)?;
     Ok(TakenParameters {
         parameters: only_list(entry),
         run,
-        kept: source.kept,
+        kept,
     })
 }
 
 // An integer, then a string or an array.
 #[tactic(auto, unfolding(refusals::specs::Answers::answer_at, crate::specs::Looking::look_of, crate::specs::Looking::parameters_at, crate::specs::Looking::fixed_at, crate::specs::Looking::part_at, crate::specs::Looking::tail_at, crate::specs::Looking::after_look, crate::specs::Entries::after_run, crate::specs::Entries::entry_at))]
 fn look_integer_then_list(
-    source: Source,
+    kept: Remembered,
     entry: Entry,
+    s: &[u8],
+    at: usize,
     list: &mut [i32],
 ) -> Result<TakenParameters, RefusedAt>
-    ensures { (look_of result ≡ parameters_at source.entry.kept (integer_then_list_shape entry) source.entry.bytes.now source.entry.at) × (list.new ≡ after_look source.entry.bytes.now (parameters_at source.entry.kept (integer_then_list_shape entry) source.entry.bytes.now source.entry.at) list.old) }
+    ensures { (look_of result ≡ parameters_at kept (integer_then_list_shape entry) s.now at) × (list.new ≡ after_look s.now (parameters_at kept (integer_then_list_shape entry) s.now at) list.old) }
 {
-    let a = numbers::read_integer(source)?;
-    let run = read_run(source.from(a.next), entry, list)?;
+    let a = numbers::read_integer(kept, s, at)?;
+    let run = read_run(kept, entry, s, a.next, list)?;
     Ok(TakenParameters {
         parameters: integer_then_list(a.value, entry),
         run,
-        kept: source.kept,
+        kept,
     })
 }
 
 // The parameters of a command of this kind, from `at` on. The entries of a string or an array go to the list if all is good and
 // it has room for all of them.
 #[tactic(auto, using(crate::proofs::Looks::of_kinds))]
-pub fn look_at(source: Source, kind: Kind, list: &mut [i32]) -> Result<TakenParameters, RefusedAt>
-    ensures { (look_of result ≡ parameters_at source.entry.kept (shape_of (kind_meant kind)) source.entry.bytes.now source.entry.at) × (list.new ≡ after_look source.entry.bytes.now (parameters_at source.entry.kept (shape_of (kind_meant kind)) source.entry.bytes.now source.entry.at) list.old) }
+pub fn look_at(
+    kept: Remembered,
+    kind: Kind,
+    s: &[u8],
+    at: usize,
+    list: &mut [i32],
+) -> Result<TakenParameters, RefusedAt>
+    ensures { (look_of result ≡ parameters_at kept (shape_of (kind_meant kind)) s.now at) × (list.new ≡ after_look s.now (parameters_at kept (shape_of (kind_meant kind)) s.now at) list.old) }
 {
     match kind {
-        Kind::OneInteger => look_one_integer(source),
-        Kind::TwoIntegers => look_two_integers(source),
-        Kind::ThreeIntegers => look_three_integers(source),
-        Kind::OnePoint => look_one_point(source),
-        Kind::TwoPoints => look_two_points(source),
-        Kind::AReal => look_real(source),
-        Kind::AString => look_list(source, Entry::ACharacter, list),
-        Kind::AnArray => look_list(source, Entry::AnInteger, list),
-        Kind::IntegerThenArray => look_integer_then_list(source, Entry::AnInteger, list),
-        Kind::IntegerThenString => look_integer_then_list(source, Entry::ACharacter, list),
-        Kind::TwoCharacters => look_two_characters(source),
+        Kind::OneInteger => look_one_integer(kept, s, at),
+        Kind::TwoIntegers => look_two_integers(kept, s, at),
+        Kind::ThreeIntegers => look_three_integers(kept, s, at),
+        Kind::OnePoint => look_one_point(kept, s, at),
+        Kind::TwoPoints => look_two_points(kept, s, at),
+        Kind::AReal => look_real(kept, s, at),
+        Kind::AString => look_list(kept, Entry::ACharacter, s, at, list),
+        Kind::AnArray => look_list(kept, Entry::AnInteger, s, at, list),
+        Kind::IntegerThenArray => look_integer_then_list(kept, Entry::AnInteger, s, at, list),
+        Kind::IntegerThenString => look_integer_then_list(kept, Entry::ACharacter, s, at, list),
+        Kind::TwoCharacters => look_two_characters(kept, s, at),
     }
 }
 

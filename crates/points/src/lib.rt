@@ -12,7 +12,6 @@ ghost use Rattle.points.specs.Writing.{part, omits_lo_y, upper_bytes, spell_byte
 
 use memory::{Point, Remembered};
 use refusals::{Refusal, RefusedAt, Taken};
-use wire::Source;
 
 // The bytes of a point, in the order in which they are sent.
 #[derive(Clone, Copy)]
@@ -64,8 +63,8 @@ fn point_of(b: PointBytes) -> Point
     }
 }
 
-// ---- reading: each function stands behind the bytes that it is named by, `b` being those in force. Which kinds of byte
-// may follow differs in each, so one function for all is no plainer.
+// ---- reading: each function stands behind the bytes that it is named by, `b` being those in force. What they share they take as `wire::take`
+// does: a struct of it would be made for that call alone. Which kinds of byte may follow differs in each, so one function for all is no plainer.
 
 // The point is whole with its LoX.
 #[tactic(auto, unfolding(refusals::specs::Answers::answer_at, crate::specs::Reading::ends_at))]
@@ -82,10 +81,10 @@ fn ends(b: PointBytes, byte: Taken<u8>) -> Result<Taken<Point>, RefusedAt>
 
 // Only LoX is left.
 #[tactic(auto, using(refusals::proofs::Rules::tests), unfolding(refusals::specs::Answers::answer_at, crate::specs::Reading::by_kind, crate::specs::Reading::last_at))]
-fn last(source: Source, b: PointBytes) -> Result<Taken<Point>, RefusedAt>
-    ensures { answer_at result ≡ last_at source.entry.kept b source.entry.bytes.now source.entry.at }
+fn last(kept: Remembered, b: PointBytes, s: &[u8], at: usize) -> Result<Taken<Point>, RefusedAt>
+    ensures { answer_at result ≡ last_at kept b s.now at }
 {
-    let byte = source.take()?;
+    let byte = wire::take(kept, s, at)?;
     match byte.value {
         64..=95 => ends(b, byte),
         _ => Err(Refusal::ByteNotAllowed.at(byte.place)),
@@ -94,12 +93,17 @@ fn last(source: Source, b: PointBytes) -> Result<Taken<Point>, RefusedAt>
 
 // Behind Extra and LoY: HiX may follow.
 #[tactic(auto, using(refusals::proofs::Rules::tests), unfolding(refusals::specs::Answers::answer_at, crate::specs::Reading::by_kind, crate::specs::Reading::after_lo_y))]
-fn after_lo_y(source: Source, b: PointBytes) -> Result<Taken<Point>, RefusedAt>
-    ensures { answer_at result ≡ after_lo_y source.entry.kept b source.entry.bytes.now source.entry.at }
+fn after_lo_y(
+    kept: Remembered,
+    b: PointBytes,
+    s: &[u8],
+    at: usize,
+) -> Result<Taken<Point>, RefusedAt>
+    ensures { answer_at result ≡ after_lo_y kept b s.now at }
 {
-    let byte = source.take()?;
+    let byte = wire::take(kept, s, at)?;
     match byte.value {
-        hix @ 0..=63 => last(source.from(byte.next), PointBytes { hix, ..b }),
+        hix @ 0..=63 => last(kept, PointBytes { hix, ..b }, s, byte.next),
         64..=95 => ends(b, byte),
         _ => Err(Refusal::ByteNotAllowed.at(byte.place)),
     }
@@ -108,10 +112,10 @@ fn after_lo_y(source: Source, b: PointBytes) -> Result<Taken<Point>, RefusedAt>
 // Behind a first byte 96..127, `upper`: it is Extra if a second one follows, and LoY if not. What is no second one, a byte or a refusal, is only
 // looked at: it is taken again behind LoY, and a refusal is given there.
 #[tactic(auto, using(refusals::proofs::Rules::tests), unfolding(refusals::specs::Answers::answer_at, crate::specs::Reading::by_kind, crate::specs::Reading::after_upper, crate::specs::Reading::after_lo_y))]
-fn past_upper(source: Source, b: PointBytes, upper: u8) -> Start
-    ensures { after_lo_y source.entry.kept result.bytes source.entry.bytes.now result.from ≡ after_upper source.entry.kept b upper source.entry.bytes.now source.entry.at }
+fn past_upper(kept: Remembered, b: PointBytes, upper: u8, s: &[u8], at: usize) -> Start
+    ensures { after_lo_y kept result.bytes s.now result.from ≡ after_upper kept b upper s.now at }
 {
-    match source.take() {
+    match wire::take(kept, s, at) {
         Ok(second) if second.value >= 96 => Start {
             bytes: PointBytes {
                 extra: upper,
@@ -122,37 +126,48 @@ fn past_upper(source: Source, b: PointBytes, upper: u8) -> Start
         },
         _ => Start {
             bytes: PointBytes { loy: upper, ..b },
-            from: source.at,
+            from: at,
         },
     }
 }
 
 // One way on behind Extra and LoY, as in `from_start`.
-fn after_upper(source: Source, b: PointBytes, upper: u8) -> Result<Taken<Point>, RefusedAt>
-    ensures { answer_at result ≡ after_upper source.entry.kept b upper source.entry.bytes.now source.entry.at }
+fn after_upper(
+    kept: Remembered,
+    b: PointBytes,
+    upper: u8,
+    s: &[u8],
+    at: usize,
+) -> Result<Taken<Point>, RefusedAt>
+    ensures { answer_at result ≡ after_upper kept b upper s.now at }
 {
-    let start = past_upper(source, b, upper);
-    after_lo_y(source.from(start.from), start.bytes)
+    let start = past_upper(kept, b, upper, s, at);
+    after_lo_y(kept, start.bytes, s, start.from)
 }
 
 #[tactic(auto, using(refusals::proofs::Rules::tests), unfolding(refusals::specs::Answers::answer_at, crate::specs::Reading::by_kind, crate::specs::Reading::after_hi_y))]
-fn after_hi_y(source: Source, b: PointBytes) -> Result<Taken<Point>, RefusedAt>
-    ensures { answer_at result ≡ after_hi_y source.entry.kept b source.entry.bytes.now source.entry.at }
+fn after_hi_y(
+    kept: Remembered,
+    b: PointBytes,
+    s: &[u8],
+    at: usize,
+) -> Result<Taken<Point>, RefusedAt>
+    ensures { answer_at result ≡ after_hi_y kept b s.now at }
 {
-    let byte = source.take()?;
+    let byte = wire::take(kept, s, at)?;
     match byte.value {
         0..=63 => Err(Refusal::ByteNotAllowed.at(byte.place)),
         64..=95 => ends(b, byte),
-        _ => after_upper(source.from(byte.next), b, byte.value),
+        _ => after_upper(kept, b, byte.value, s, byte.next),
     }
 }
 
 // HiY, if it stands; where it is left out, the rest is read as behind it.
 #[tactic(auto, using(refusals::proofs::Rules::tests), unfolding(refusals::specs::Answers::answer_at, crate::specs::Reading::by_kind, crate::specs::Reading::after_hi_y, crate::specs::Reading::point_from))]
-fn past_hi_y(source: Source, b: PointBytes) -> Start
-    ensures { after_hi_y source.entry.kept result.bytes source.entry.bytes.now result.from ≡ point_from source.entry.kept b source.entry.bytes.now source.entry.at }
+fn past_hi_y(kept: Remembered, b: PointBytes, s: &[u8], at: usize) -> Start
+    ensures { after_hi_y kept result.bytes s.now result.from ≡ point_from kept b s.now at }
 {
-    match source.take() {
+    match wire::take(kept, s, at) {
         Ok(hiy) if hiy.value < 64 => Start {
             bytes: PointBytes {
                 hiy: hiy.value,
@@ -160,31 +175,33 @@ fn past_hi_y(source: Source, b: PointBytes) -> Start
             },
             from: hiy.next,
         },
-        _ => Start {
-            bytes: b,
-            from: source.at,
-        },
+        _ => Start { bytes: b, from: at },
     }
 }
 
 // A point, the bytes `b` being those of the last one. There is one way on behind HiY, so that the bytes in force need not be stored to be
 // handed over.
-fn from_start(source: Source, b: PointBytes) -> Result<Taken<Point>, RefusedAt>
-    ensures { answer_at result ≡ point_from source.entry.kept b source.entry.bytes.now source.entry.at }
+fn from_start(
+    kept: Remembered,
+    b: PointBytes,
+    s: &[u8],
+    at: usize,
+) -> Result<Taken<Point>, RefusedAt>
+    ensures { answer_at result ≡ point_from kept b s.now at }
 {
-    let start = past_hi_y(source, b);
-    after_hi_y(source.from(start.from), start.bytes)
+    let start = past_hi_y(kept, b, s, at);
+    after_hi_y(kept, start.bytes, s, start.from)
 }
 
 // 8 at place 0 for a remembered point outside 0..4095, then the earliest byte decides.
 #[tactic(auto, using(crate::proofs::Insides::tested), unfolding(refusals::specs::Answers::answer_at, crate::specs::Reading::point_at))]
-pub fn read_point(source: Source) -> Result<Taken<Point>, RefusedAt>
-    ensures { answer_at result ≡ point_at source.entry.kept source.entry.bytes.now source.entry.at }
+pub fn read_point(kept: Remembered, s: &[u8], at: usize) -> Result<Taken<Point>, RefusedAt>
+    ensures { answer_at result ≡ point_at kept s.now at }
 {
-    if !memory::is_inside(source.kept.point) {
+    if !memory::is_inside(kept.point) {
         return Err(Refusal::NotValid.at(0));
     }
-    from_start(source, bytes_of(source.kept.point))
+    from_start(kept, bytes_of(kept.point), s, at)
 }
 
 // ---- writing

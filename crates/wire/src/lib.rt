@@ -71,30 +71,14 @@ fn found(mode: DelMode, s: &[u8], at: usize) -> Result<Taken<u8>, RefusedAt>
     }
 }
 
-// Where reading stands: what is remembered, the bytes, and the place among them.
-#[derive(Clone, Copy)]
-pub struct Source<'a> {
-    pub kept: Remembered,
-    pub bytes: &'a [u8],
-    pub at: usize,
-}
-
-impl<'a> Source<'a> {
-    // The same from another place on.
-    pub fn from(self, at: usize) -> Source<'a>
-        ensures { (result.kept ≡ self.entry.kept) × ((result.bytes ≡ self.entry.bytes) × (result.at ≡ at)) }
-    {
-        Source { at, ..self }
-    }
-
-    // The next byte of a parameter.
-    #[tactic(auto, using(crate::proofs::Dels::found_behind))]
-    pub fn take(self) -> Result<Taken<u8>, RefusedAt>
-        ensures { answer_at result ≡ byte_at self.entry.kept self.entry.bytes.now self.entry.at }
-    {
-        let mode = self.kept.mode;
-        found(mode, self.bytes, past_dels(mode, self.bytes, self.at))
-    }
+// The next byte of a parameter. What is remembered, the bytes and the place go side by side through all reading, and not as one struct: the definitions
+// take them apart, so that a promise would say `from.entry.kept`, `from.entry.bytes.now` and `from.entry.at` for three words, and the place alone moves.
+#[tactic(auto, using(crate::proofs::Dels::found_behind))]
+pub fn take(kept: Remembered, s: &[u8], at: usize) -> Result<Taken<u8>, RefusedAt>
+    ensures { answer_at result ≡ byte_at kept s.now at }
+{
+    let mode = kept.mode;
+    found(mode, s, past_dels(mode, s, at))
 }
 
 // The highest byte that is taken as it stands: a DEL only where it is data.
