@@ -11,6 +11,16 @@ use memory::Remembered;
 use ranges::MOST_ENTRIES;
 use refusals::{Refusal, RefusedAt, Taken};
 
+// The refusal of an integer outside its range, in a call of its own: where it is made in place, the next start is one of two words, and is not known
+// before the whole number is.
+#[cold]
+#[inline(never)]
+fn outside(place: usize) -> RefusedAt
+    ensures { result ≡ record { refusal = Refusal.IntegerOutside; place = place } }
+{
+    Refusal::IntegerOutside.at(place)
+}
+
 // The low byte `low` after high bytes of value `high`.
 #[tactic(auto, using(crate::proofs::Reading::low_in))]
 fn low_byte(high: u16, low: u8, place: usize, next: usize) -> Result<Taken<i32>, RefusedAt>
@@ -20,7 +30,7 @@ fn low_byte(high: u16, low: u8, place: usize, next: usize) -> Result<Taken<i32>,
     let mag = high * 16 + (low % 16) as u16;
     let negative = low < 48;
     if mag as u32 > signs::most_magnitude(negative) {
-        return Err(Refusal::IntegerOutside.at(place));
+        return Err(outside(place));
     }
     Ok(Taken {
         value: signs::signed(mag, negative),
