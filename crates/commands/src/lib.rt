@@ -198,8 +198,8 @@ pub fn read_command(
     body(kept, letters, s, start, list)
 }
 
-// ---- the same where the entries are of no interest: none is handed over and none lacks room. Functions of their own, since a list that may be wanting
-// would have to be asked for behind each command.
+// ---- the same where the entries are of no interest: none is handed over and none lacks room. Functions of their own: with a list lent for nothing
+// expanding is slower (docs/BENCHMARKS.md).
 
 // Read as in room for 256 entries, the most that a command has: 7 does not come, and the start, which would be its place, is not asked for. The list
 // lent here has no room, so nothing is handed over.

@@ -489,6 +489,7 @@ fn two_numbers(a: i32, b: i32) -> Numbers
 pub fn numbers_of(parameters: Parameters) -> Numbers
     ensures { Holds (values_of parameters) result }
 {
+    // an arm for each: the check gives no proof of an arm that binds the integer of several
     match parameters {
         Parameters::OneInteger(a) => one_number(a),
         Parameters::TwoIntegers(a, b) => two_numbers(a, b),

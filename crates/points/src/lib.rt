@@ -206,8 +206,8 @@ pub fn read_point(kept: Remembered, s: &[u8], at: usize) -> Result<Taken<Point>,
 
 // ---- writing
 
-// One byte of a point behind `n` others, or nothing where it is left out. Answers how many they then are. At four of five calls `omit` is a value
-// that is at hand: an `if` at each is no plainer.
+// One byte of a point behind `n` others, or nothing where it is left out. Answers how many they then are. An `if` at each of the five calls would
+// say `pour_behind` with its five arguments five times, which is no plainer.
 #[tactic(auto, using(crate::proofs::Spelling::parts))]
 fn pour_part(kept: Remembered, n: usize, omit: bool, b: u8, out: &mut [u8], at: usize) -> usize
     requires { n ≤ 8 }

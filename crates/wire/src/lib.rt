@@ -71,8 +71,8 @@ fn found(mode: DelMode, s: &[u8], at: usize) -> Result<Taken<u8>, RefusedAt>
     }
 }
 
-// The next byte of a parameter. What is remembered, the bytes and the place go side by side through all reading, and not as one struct: the definitions
-// take them apart, so that a promise would say `from.entry.kept`, `from.entry.bytes.now` and `from.entry.at` for three words, and the place alone moves.
+// The next byte of a parameter. What is remembered, the bytes and the place go side by side through all reading, and not as one struct: that was tried,
+// and reading is slower (docs/BENCHMARKS.md).
 #[tactic(auto, using(crate::proofs::Dels::found_behind))]
 pub fn take(kept: Remembered, s: &[u8], at: usize) -> Result<Taken<u8>, RefusedAt>
     ensures { answer_at result ≡ byte_at kept s.now at }
