@@ -1,7 +1,7 @@
 /*
  * The calls of the unit for programs in C and in any language that can call C.
  *
- * Link with libardhrumesh.a, which ./archive writes, for x86-64; of the C library it takes memcpy, memmove and memset. No call allocates, keeps anything between calls, prints, or fails to return.
+ * Link with libardhrumesh.a, which ./archive writes, for x86-64; of the C library it takes memcpy and memset. No call allocates, keeps anything between calls, prints, or fails to return.
  *
  * WHAT A CALL ANSWERS
  *   Every call returns the number of its refusal, 0 when it is done (ARDH_... below), and answers for all values of its arguments.
