@@ -38,11 +38,11 @@ fn bytes_of(p: Point) -> PointBytes
 {
     let Point { x, y } = p;
     PointBytes {
-        hiy: 32 + (y / 128) as u8,
-        extra: 96 + (y % 4 * 4) as u8 + (x % 4) as u8,
-        loy: 96 + (y / 4 % 32) as u8,
-        hix: 32 + (x / 128) as u8,
-        lox: 64 + (x / 4 % 32) as u8,
+        hiy: 32 + (y >> 7) as u8,
+        extra: 96 + ((y & 3) << 2) as u8 + (x & 3) as u8,
+        loy: 96 + ((y >> 2) & 31) as u8,
+        hix: 32 + (x >> 7) as u8,
+        lox: 64 + ((x >> 2) & 31) as u8,
     }
 }
 
@@ -50,7 +50,7 @@ fn bytes_of(p: Point) -> PointBytes
 fn coordinate(hi: u8, lo: u8, rest: u8) -> u16
     ensures { result ≡ hi % 32 * 128 + lo % 32 * 4 + rest % 4 }
 {
-    u16::from(hi % 32) * 128 + u16::from(lo % 32) * 4 + u16::from(rest % 4)
+    (u16::from(hi & 31) << 7) + (u16::from(lo & 31) << 2) + u16::from(rest & 3)
 }
 
 // The point of five bytes. The 16 bit of Extra is not looked at.
@@ -59,7 +59,7 @@ fn point_of(b: PointBytes) -> Point
 {
     Point {
         x: coordinate(b.hix, b.lox, b.extra),
-        y: coordinate(b.hiy, b.loy, b.extra / 4),
+        y: coordinate(b.hiy, b.loy, b.extra >> 2),
     }
 }
 
