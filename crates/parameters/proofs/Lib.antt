@@ -4,3 +4,4 @@ pub mod Coinciding
 pub mod Numbered
 pub mod Kept
 pub mod Counted
+pub mod Pairs
