@@ -8,11 +8,13 @@ use lib.IntN.{ℤ, pos, negsuc, nat_abs}
 use mir.Syntax.{w32}
 use mir.Val.{SFits, to_z, of_z}
 use mir.Facts.{to_z-of_z}
+use Rattle.std.specs.Prelude.{Ok, Err}
+use Rattle.refusals.specs.declared.Refusal.TheVariants.{SurfaceSize}
 use Rattle.refusals.proofs.Cases.{zero_one, and_left, and_right}
 use Rattle.signs.specs.Signs.{is_negative}
 use Rattle.beam.specs.declared.Beam.{Beam}
 use Rattle.beam.specs.Validity.{is_size, is_bits}
-use Rattle.beam.specs.Settings.{settled, Settled, bits_from, with_bits, set_bits}
+use Rattle.beam.specs.Settings.{settled, Settled, fresh_by, fresh_beam, no_beam, make_fresh, bits_from, with_bits, set_bits}
 
 -- ---- a size
 
@@ -24,6 +26,17 @@ pub size_h : (w h : ℕ) → is_size w h ≡ true → 1 ≤ h
 unfolding is_size
 size_h w h e =
     leb-true 1 h (and_left (leb 1 h) (leb h 512) (and_right (leb w 512) (leb 1 h && leb h 512) (and_right (leb 1 w) (leb w 512 && (leb 1 h && leb h 512)) e)))
+
+-- ---- a fresh record
+
+module _ (w h : ℕ) {s : Bool} (es : s ≡ is_size w h) where
+  pub made_fresh : s ≡ true → fresh_by (Ok (fresh_beam w h)) ≡ make_fresh w h
+  unfolding fresh_by make_fresh
+  made_fresh t = rw (sym es ∙ t)
+
+  pub not_fresh : s ≡ false → fresh_by (Err (record { refusal = SurfaceSize; beam = no_beam })) ≡ make_fresh w h
+  unfolding fresh_by make_fresh
+  not_fresh t = rw (sym es ∙ t)
 
 -- ---- RU's third integer: a signed argument comes back from a callee's contract as the machine reads it
 

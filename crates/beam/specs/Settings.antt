@@ -6,6 +6,7 @@ use Rattle.refusals.specs.Refusals.{number_of}
 use Rattle.refusals.specs.Answers.{pick, demand}
 use Rattle.memory.specs.declared.Point.{Point}
 use Rattle.beam.specs.declared.Beam.{Beam}
+use Rattle.beam.specs.declared.RefusedFresh.{RefusedFresh}
 use Rattle.beam.specs.Validity.{is_size, is_bits, on_surface, in_viewport, is_valid}
 
 -- what a call on the record gives back: 0 or the refusal's number, and a record
@@ -17,6 +18,11 @@ pub record Settled : Type 0 where
 unfoldable pub settled_by : (came : Beam) → Result Beam Refusal → Settled
 settled_by came (Ok r) = record { number = 0; after = r }
 settled_by came (Err e) = record { number = number_of e; after = came }
+
+-- what the answer of `fresh` says, to which no record came: where it is refused, the record is the one beside the refusal
+unfoldable pub fresh_by : Result Beam RefusedFresh → Settled
+fresh_by (Ok r) = record { number = 0; after = r }
+fresh_by (Err e) = record { number = number_of e.refusal; after = e.beam }
 
 -- the new record; where the call is refused, the record as it came
 abbrev pub unless_refused : ℕ → (new old : Beam) → Settled

@@ -1,10 +1,11 @@
 // The beam record that the pixel commands work with, and the calls that set it: a fresh one, RU, RS, RH, and one step of the beam.
 // (0,0) is the lower left. A call takes W and H and the record by value, and gives the new record or a refusal; the record as it came stays with the caller.
+// A refused `fresh`, to which none came, hands one back.
 #![tactic(auto)]
 
 ghost use Rattle.std.specs.Prelude.{◌≡◌};
 ghost use Rattle.beam.specs.Validity.{is_size, is_bits, on_surface, in_viewport, is_valid};
-ghost use Rattle.beam.specs.Settings.{settled_by, settled, no_beam, make_fresh, bits_from, set_bits, framed, set_viewport, set_beam, stepped, make_step};
+ghost use Rattle.beam.specs.Settings.{settled_by, settled, fresh_by, make_fresh, bits_from, set_bits, framed, set_viewport, set_beam, stepped, make_step};
 
 use memory::Point;
 use refusals::Refusal;
@@ -29,6 +30,23 @@ pub struct Beam {
     pub x: usize,
     pub y: usize,
 }
+
+// "Where a fresh record is refused, all its fields are 0": the refusal, and the record that is handed back.
+#[derive(Clone, Copy)]
+pub struct RefusedFresh {
+    pub refusal: Refusal,
+    pub beam: Beam,
+}
+
+const NO_BEAM: Beam = Beam {
+    bits: 0,
+    left: 0,
+    bottom: 0,
+    right: 0,
+    top: 0,
+    x: 0,
+    y: 0,
+};
 
 // ---- what a record must be
 
@@ -90,10 +108,10 @@ fn settle(size: Size, beam: Beam, allowed: bool, new: Beam) -> Result<Beam, Refu
     Ok(new)
 }
 
-// "Fresh: the whole surface, beam at the upper left."
-#[tactic(auto, using(crate::proofs::Settling::size_w, crate::proofs::Settling::size_h), unfolding(crate::specs::Settings::settled_by, crate::specs::Settings::make_fresh))]
-pub fn fresh(size: Size) -> Result<Beam, Refusal>
-    ensures { settled_by no_beam result ≡ make_fresh size.w size.h }
+// "Fresh: the whole surface, beam at the upper left." Where it is refused, all its fields are 0.
+#[tactic(auto, using(crate::proofs::Settling::size_w, crate::proofs::Settling::size_h))]
+pub fn fresh(size: Size) -> Result<Beam, RefusedFresh>
+    ensures { fresh_by result ≡ make_fresh size.w size.h }
 {
     if size.is_size() {
         let top = size.h - 1;
@@ -107,7 +125,10 @@ pub fn fresh(size: Size) -> Result<Beam, Refusal>
             y: top,
         });
     }
-    Err(Refusal::SurfaceSize)
+    Err(RefusedFresh {
+        refusal: Refusal::SurfaceSize,
+        beam: NO_BEAM,
+    })
 }
 
 // RU's third integer as bits: 1, 2, 3 or 6.

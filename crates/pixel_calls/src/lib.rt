@@ -12,17 +12,6 @@ use beam::{Beam, Size};
 use pixels::Drawn;
 use refusals::Refusal;
 
-// "Where a fresh record is refused, all its fields are 0."
-const NO_BEAM: Beam = Beam {
-    bits: 0,
-    left: 0,
-    bottom: 0,
-    right: 0,
-    top: 0,
-    x: 0,
-    y: 0,
-};
-
 // ---- the record; by name and not by `From`, since an array and a `Beam` are both of other crates
 
 #[tactic(auto, unfolding(crate::specs::Fields::beam_in))]
@@ -101,11 +90,20 @@ fn hand_written(
 
 // ---- setting the record
 
+#[tactic(auto, unfolding(beam::specs::Settings::fresh_by))]
 pub fn ardh_fresh(w: usize, h: usize, fields: &mut [usize; 7]) -> u8
     ensures { HandsSettled (make_fresh w h) result fields.new }
 {
-    let setting = beam::fresh(Size { w, h });
-    hand(fields, NO_BEAM, setting)
+    match beam::fresh(Size { w, h }) {
+        Ok(beam) => {
+            *fields = fields_of(beam);
+            0
+        }
+        Err(e) => {
+            *fields = fields_of(e.beam);
+            e.refusal.number()
+        }
+    }
 }
 
 // RU
