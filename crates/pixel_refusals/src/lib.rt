@@ -2,7 +2,7 @@
 // Nothing lent is written here; the crate `pixels` lays what is allowed.
 #![tactic(auto)]
 
-ghost use Rattle.std.specs.Prelude.{◌≡◌, map, ◌<◌, ◌≤◌, nat_abs};
+ghost use Rattle.std.specs.Prelude.{◌≡◌, map, ◌<◌, ◌≤◌, get_or, nat_abs};
 ghost use Rattle.refusals.specs.Answers.{refusal_of};
 ghost use Rattle.pixel_refusals.specs.Tests.{is_surface, pixel_characters, raster_numbers, raster_characters, run_numbers, write_refusal, raster_refusal, run_refusal};
 
@@ -14,6 +14,13 @@ use refusals::Refusal;
 pub const END_OF_ROW: usize = 96;
 
 // ---- what is handed in
+
+// An entry of a lent list, its sign aside: the tests refuse one below 0. Behind the last it is 0.
+pub fn entry(list: &[i32], i: usize) -> usize
+    ensures { result ≡ get_or (map nat_abs list.now) i 0 }
+{
+    list.get(i).map_or(0, |v| signs::magnitude(*v) as usize)
+}
 
 // "the lent bytes number exactly W times H"
 #[tactic(auto, using(crate::proofs::Looking::small_area), unfolding(crate::specs::Tests::is_surface))]
