@@ -9,12 +9,12 @@ use mir.Syntax.{w32}
 use mir.Val.{SFits, to_z, of_z}
 use mir.Facts.{to_z-of_z}
 use Rattle.std.specs.Prelude.{Ok, Err}
-use Rattle.refusals.specs.declared.Refusal.TheVariants.{SurfaceSize}
+use Rattle.refusals.specs.declared.Refusal.TheVariants.{NotValid, SurfaceSize}
 use Rattle.refusals.proofs.Cases.{zero_one, and_left, and_right}
 use Rattle.signs.specs.Signs.{is_negative}
 use Rattle.beam.specs.declared.Beam.{Beam}
-use Rattle.beam.specs.Validity.{is_size, is_bits}
-use Rattle.beam.specs.Settings.{settled, Settled, fresh_by, fresh_beam, no_beam, make_fresh, bits_from, with_bits, set_bits}
+use Rattle.beam.specs.Validity.{is_size, is_bits, is_valid}
+use Rattle.beam.specs.Settings.{settled_by, settled, Settled, fresh_by, fresh_beam, no_beam, make_fresh, bits_from, with_bits, set_bits}
 
 -- ---- a size
 
@@ -26,6 +26,17 @@ pub size_h : (w h : ℕ) → is_size w h ≡ true → 1 ≤ h
 unfolding is_size
 size_h w h e =
     leb-true 1 h (and_left (leb 1 h) (leb h 512) (and_right (leb w 512) (leb 1 h && leb h 512) (and_right (leb 1 w) (leb w 512 && (leb 1 h && leb h 512)) e)))
+
+-- ---- 8 for the record, 8 for the values
+
+module _ (w h : ℕ) (came : Beam) (allowed : Bool) (new : Beam) {s : Bool} (es : s ≡ is_size w h) (t : s ≡ true) {v : Bool} (ev : v ≡ is_valid w h came) where
+  pub wrong_record : v ≡ false → settled_by came (Err NotValid) ≡ settled w h came allowed new
+  unfolding settled_by settled
+  wrong_record u = rw (sym es ∙ t, sym ev ∙ u)
+
+  pub wrong_values : v ≡ true → allowed ≡ false → settled_by came (Err NotValid) ≡ settled w h came allowed new
+  unfolding settled_by settled
+  wrong_values u e = rw (sym es ∙ t, sym ev ∙ u, e)
 
 -- ---- a fresh record
 

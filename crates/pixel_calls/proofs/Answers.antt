@@ -14,6 +14,10 @@ use Rattle.beam.specs.declared.Beam.{Beam}
 use Rattle.beam.specs.Settings.{Settled, set_bits, set_viewport, set_beam}
 use Rattle.pixels.specs.Writes.{WriteOutcome, draw_raster, raster_surface}
 use Rattle.pixel_calls.specs.Fields.{beam_in}
+use Rattle.pixel_calls.specs.Promises.{HandsSettled}
+
+pub settled_so : {q d : Settled} {k : ℕ} {l : List ℕ} → q ≡ d → HandsSettled q k l → HandsSettled d k l
+settled_so e h = rw e at h
 
 module _ (w h : ℕ) (l : List ℕ) {b : Beam} (eb : b ≡ beam_in l) {q : Settled} where
   pub bits_given : (i j k : ℤ) → SFits w32 i → SFits w32 j → SFits w32 k

@@ -107,7 +107,6 @@ pub fn ardh_fresh(w: usize, h: usize, fields: &mut [usize; 7]) -> u8
 }
 
 // RU
-#[tactic(auto, using(crate::proofs::Answers::bits_given))]
 pub fn ardh_set_bits(
     w: usize,
     h: usize,
@@ -124,7 +123,6 @@ pub fn ardh_set_bits(
 }
 
 // RS
-#[tactic(auto, using(crate::proofs::Answers::viewport_given))]
 pub fn ardh_set_viewport(
     w: usize,
     h: usize,
@@ -144,7 +142,6 @@ pub fn ardh_set_viewport(
 }
 
 // RH
-#[tactic(auto, using(crate::proofs::Answers::beam_given))]
 pub fn ardh_set_beam(w: usize, h: usize, fields: &mut [usize; 7], x: i32, y: i32) -> u8
     ensures { HandsSettled (set_beam w h (beam_in fields.old) (point_given x y)) result fields.new }
 {
@@ -166,7 +163,7 @@ pub fn ardh_step(w: usize, h: usize, fields: &mut [usize; 7]) -> u8
 // ---- the two writes
 
 // RP
-#[tactic(auto, using(crate::proofs::Answers::raster_given, crate::proofs::Answers::raster_laid))]
+#[tactic(auto, using(crate::proofs::Answers::raster_given))]
 pub fn ardh_draw_raster(
     surface: &mut [u8],
     w: usize,

@@ -1,5 +1,6 @@
 -- The tests of a write in their order, by what their parts gave, and what holds once they have passed.
 use Rattle.std.proofs.lemmas.Grind.{div_ceil_times}
+use Rattle.std.specs.Int.{div_ceil}
 use Prim.Native.Nat.{ℕ, suc, min, ◌%◌, ◌+◌, ◌-◌, ◌*◌, ◌/◌, ◌≤◌, ◌<◌}
 use mathlib.Core.Path.{◌≡◌, refl, sym, ◌∙◌}
 use mathlib.Core.Bool.{Bool, true, false, not, ◌&&◌, ◌||◌}
@@ -40,6 +41,10 @@ size_of w h n =
 pub small_area : (w h : ℕ) → is_size w h ≡ true → h * w ≤ 262144
 small_area w h t = let z = size_of w h t in area_le {w = w} {h = h} z.0 z.1
 
+pub sized : (w h size : ℕ) {s : Bool} → s ≡ is_size w h → s ≡ true → eqb size (h * w) ≡ is_surface w h size
+unfolding is_surface
+sized w h size e t = rw (sym e ∙ t)
+
 -- ---- bits that are set
 
 or_cases : {P : Type 0} (a b : Bool) → (a ≡ true → P) → (b ≡ true → P) → a || b ≡ true → P
@@ -78,6 +83,13 @@ needed_so n b p =
     let low : q ≤ (n + b - 1) / b = (le-div_iff_mul-le p).1 (omega (arith, t)) in
     let high : suc q ≤ (n + b - 1) / b → ⊥ = λ h. omega (arith, (le-div_iff_mul-le p).0 h, t) in
     omega (arith, low, high)
+
+pub characters_tested : (n : ℤ) → SFits w32 n → (list : List ℤ) (b : ℕ) → 0 < b → b ≤ 6 → {m k d : ℕ} → m ≡ nat_abs (to_z w32 (of_z w32 n)) → k ≡ pixel_characters (map nat_abs list) → d ≡ div_ceil m (6 / b)
+    → k ≡ d → {q : Bool} → q ≡ every (within 32 96) list → q ≡ raster_characters b n list
+unfolding raster_characters
+characters_tested n f list b p six em ek ed h j =
+    let full : div_ceil (nat_abs n) (6 / b) ≡ needed b (nat_abs n) = needed_so (nat_abs n) (6 / b) (some_per_character b p six) in
+    rw (eq-eqb (pixel_characters (map nat_abs list)) (needed b (nat_abs n)) (sym ek ∙ h ∙ ed ∙ rw (magnitude_so n f em) full)) j
 
 module _ (list : List ℤ) where
   pub few-codes : run_numbers list ≡ true → length list ≤ most_entries
