@@ -5,7 +5,7 @@ use mathlib.Core.Bool.{Bool, true, false, ◌&&◌}
 use mathlib.Core.List.{List}
 use native.Mathlib.Omega.{arith}
 use borrow.Author.Tests.{lt-leb, le-leb}
-use lib.Dec.{leb}
+use lib.Dec.{eqb, leb}
 use lib.ListN.{length}
 use lib.Seq.{sets-eq}
 use lib.IntN.{ℤ, nat_abs}
@@ -23,7 +23,7 @@ use Rattle.refusals.proofs.Numbers.{not_nought, met}
 use Rattle.std.specs.Prelude.{Result, Ok, Err}
 use Rattle.macros.specs.Store.{three_bytes, well_formed, is_macro_number, body_in_either, look_refusal, find_refusal}
 use Rattle.expansion.specs.declared.Expanded.{Expanded}
-use Rattle.expansion.specs.Expansion.{Stretch, call_stretch, started, reached_by, told_of, out_of, room_refusal, room_told, room_out, start_refusal, expand_refusal, expand_told, expand_out}
+use Rattle.expansion.specs.Expansion.{Stretch, call_stretch, started, reached_by, told_of, out_of, or_next, room_refusal, room_told, room_out, start_refusal, expand_refusal, expand_told, expand_out}
 use Rattle.expansion.specs.Running.{Ran}
 use Rattle.expansion.proofs.Walking.{went_on, was_refused}
 
@@ -45,13 +45,17 @@ refused-told e c z = rw (← z, not_nought e)
 refused-out : (e : Refusal) {f : ℕ} (c : Stretch) (out : List ℕ) → number_of e ≡ f → out ≡ out_of f c out
 refused-out e c out z = rw (← z, not_nought e)
 
+-- the first trouble is the refusal, whatever would come next
+trouble_first : (f next : ℕ) → eqb f 0 ≡ false → or_next f next ≡ f
+trouble_first f next e = rw e
+
 module _ (volatile saved : List ℕ) (number : ℤ) (kept : Remembered) (f : SFits w32 number) (r : Result Expanded Refusal) (t : answer_of r ≡ reached_by 0 (started volatile saved (to_z w32 (of_z w32 number)) kept)) where
   told_of_lem : answer_of r ≡ reached_by 0 (started volatile saved number kept)
   told_of_lem = rw (to_z-of_z f) at t
 
   module _ {e : Refusal} (g : r ≡ Err e) where
     refusal_is : (room : ℕ) → number_of e ≡ room_refusal (started volatile saved number kept) room
-    refusal_is room = let q = was_refused 0 (started volatile saved number kept) told_of_lem g in rw q.0 q.1
+    refusal_is room = let q = was_refused 0 (started volatile saved number kept) told_of_lem g in q.1 ∙ sym (trouble_first (started volatile saved number kept).number _ q.0)
 
     pub look_refused_told : (room : ℕ) → answer_of (Err e) ≡ room_told (started volatile saved number kept) room
     unfolding room_told
