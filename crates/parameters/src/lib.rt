@@ -5,7 +5,7 @@
 
 ghost use Rattle.std.specs.Prelude.{◌≡◌, [], ◌∷◌, map, ◌≤◌, length, take, pos, Ok};
 ghost use Rattle.std.proofs.lemmas.List.Edits.{sets};
-ghost use Rattle.refusals.specs.Answers.{done, answer_at};
+ghost use Rattle.refusals.specs.Answers.{done, then, answer_at};
 ghost use Rattle.table.specs.Table.{one_integer, two_integers, three_integers, one_point, two_points, a_real, two_characters, kind_meant};
 ghost use Rattle.parameters.specs.Entries.{entry_at, entry_values, entries_end, list_behind, run_at, after_run, characters_ahead};
 ghost use Rattle.parameters.specs.Shapes.{shape_of, list_shape, integer_then_list_shape, list_of, number, values_of, tail_of, last_point, tail_meant, point_meant};
@@ -376,6 +376,27 @@ fn integer_then_list(a: i32, entry: Entry) -> Parameters
     }
 }
 
+// The string or the array behind the fixed parameters, with them. The run is not handed out by a call of its own: its first word and the refusal would
+// come in one word, and be put together byte by byte (docs/BENCHMARKS.md).
+#[tactic(auto, unfolding(refusals::specs::Answers::answer_at, crate::specs::Looking::look_of, crate::specs::Entries::after_run))]
+fn with_run(
+    kept: Remembered,
+    entry: Entry,
+    parameters: Parameters,
+    s: &[u8],
+    at: usize,
+    list: &mut [i32],
+) -> Result<TakenParameters, RefusedAt>
+    ensures { (look_of result ≡ then (run_at entry kept s.now at) (λ h. done (parsed_as parameters h kept))) × (list.new ≡ after_run entry kept s.now (run_at entry kept s.now at) list.old) }
+{
+    let run = read_run(kept, entry, s, at, list)?;
+    Ok(TakenParameters {
+        parameters,
+        run,
+        kept,
+    })
+}
+
 // The parameters that are a string or an array alone.
 #[tactic(auto, unfolding(refusals::specs::Answers::answer_at, crate::specs::Looking::look_of, crate::specs::Looking::parameters_at, crate::specs::Looking::fixed_at, crate::specs::Looking::part_at, crate::specs::Looking::tail_at, crate::specs::Looking::after_look, crate::specs::Entries::after_run))]
 fn look_list(
@@ -387,12 +408,7 @@ fn look_list(
 ) -> Result<TakenParameters, RefusedAt>
     ensures { (look_of result ≡ parameters_at kept (list_shape entry) s.now at) × (list.new ≡ after_look s.now (parameters_at kept (list_shape entry) s.now at) list.old) }
 {
-    let run = read_run(kept, entry, s, at, list)?;
-    Ok(TakenParameters {
-        parameters: only_list(entry),
-        run,
-        kept,
-    })
+    with_run(kept, entry, only_list(entry), s, at, list)
 }
 
 // An integer, then a string or an array.
@@ -407,12 +423,8 @@ fn look_integer_then_list(
     ensures { (look_of result ≡ parameters_at kept (integer_then_list_shape entry) s.now at) × (list.new ≡ after_look s.now (parameters_at kept (integer_then_list_shape entry) s.now at) list.old) }
 {
     let a = numbers::read_integer(kept, s, at)?;
-    let run = read_run(kept, entry, s, a.next, list)?;
-    Ok(TakenParameters {
-        parameters: integer_then_list(a.value, entry),
-        run,
-        kept,
-    })
+    let parameters = integer_then_list(a.value, entry);
+    with_run(kept, entry, parameters, s, a.next, list)
 }
 
 // The parameters of a command of this kind, from `at` on. The entries of a string or an array go to the list if all is good and
