@@ -35,7 +35,8 @@ use Rattle.macros.proofs.Reading.{size-cons, size-nil, and_no, room-none, room-s
 use Rattle.macros.proofs.Listing.{entries-rising, whole-store}
 use Rattle.macros.proofs.Fronts.{formed-of, malformed_of}
 use Rattle.defining.proofs.Putting.{parted}
-use Rattle.defining.proofs.Writing.{cleared}
+use Rattle.defining.proofs.Writing.{moved, cleared}
+use Rattle.std.specs.List.{copy_within}
 use borrow.Rule.Slice.PartMut.{put_mid}
 
 pub ruleset rooms = (three-size, room-none, room-some)
@@ -233,13 +234,14 @@ module _ (L : Layout) (lawful : Lawful L) (s : List ℕ) (n : ℕ) (cs : List �
         ∙ ap (λ (k : ℕ). encoded L (put n b old-entries) ++ replicate (length s - k) 0) zp)
 
     -- the same of what the code moves, writes and clears
-    pub in_place : {t u ys : List ℕ} → t ≡ sets s (g.at + size) (take (g.end - g.old) (drop g.old s)) → u ≡ sets t g.at (encoded L (one n b))
+    pub in_place : {t u ys : List ℕ} → t ≡ copy_within s g.old g.end (g.at + size) → u ≡ sets t g.at (encoded L (one n b))
         → ys ≡ replicate (length (take (length u - (g.at + size + (g.end - g.old))) (drop (g.at + size + (g.end - g.old)) u))) 0
         → put_mid (g.at + size + (g.end - g.old)) (length u - (g.at + size + (g.end - g.old))) u ys ≡ put_in L s n b
     in_place {t} {u} {ys} et eu ey =
         let room : g.at + size + (g.end - g.old) ≤ length s = omega (arith, fit, gap.forth, gap.further, gap.inside) in
-        let lu : length u ≡ length s = ap length eu ∙ length-sets t g.at (encoded L (one n b)) ∙ ap length et ∙ length-sets s (g.at + size) (take (g.end - g.old) (drop g.old s)) in
-        rewritten et eu (cleared u (g.at + size + (g.end - g.old)) (omega (arith, lu, room)) ey)
+        let mt = moved s g.old g.end (g.at + size) gap.further gap.inside room et in
+        let lu : length u ≡ length s = ap length eu ∙ length-sets t g.at (encoded L (one n b)) ∙ ap length mt ∙ length-sets s (g.at + size) (take (g.end - g.old) (drop g.old s)) in
+        rewritten mt eu (cleared u (g.at + size + (g.end - g.old)) (omega (arith, lu, room)) ey)
 
 pub ruleset placings = (three-size, three-lawful, too_short, not_touched, in_room, in_place)
 

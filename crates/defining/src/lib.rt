@@ -1,8 +1,7 @@
-// Setting, replacing and deleting a macro, within the store: what stands behind its entry is moved, from whichever end is right, and nothing is
-// copied out.
+// Setting, replacing and deleting a macro, within the store: what stands behind its entry is moved, and nothing is copied out.
 #![tactic(auto)]
 
-ghost use Rattle.std.specs.Prelude.{◌≡◌, true, map, ◌+◌, ◌≤◌, length, take, drop, nat_abs};
+ghost use Rattle.std.specs.Prelude.{◌≡◌, true, map, ◌+◌, ◌≤◌, length, nat_abs};
 ghost use Rattle.std.proofs.lemmas.List.Edits.{sets};
 ghost use Rattle.refusals.specs.Answers.{demand, every, refusal_of};
 ghost use Rattle.ranges.specs.Ranges.{within};
@@ -12,42 +11,6 @@ ghost use Rattle.defining.specs.Defining.{one, may_define, define_refusal, store
 
 use macros::{Gap, HEADER, LONGEST};
 use refusals::Refusal;
-
-// ---- moving a stretch within a store: byte by byte, and not by `copy_within`, for which the archive would need `memmove` from the program that it is
-// linked to (include/ardhrumesh.h)
-
-// Towards the front: from the first byte on.
-#[tactic(auto, using(crate::proofs::Writing::lowerings))]
-fn move_down(store: &mut [u8], from: usize, to: usize, n: usize)
-    requires { (to ≤ from) × (from + n ≤ length store.old) }
-    ensures { store.new ≡ sets store.old to (take n (drop from store.old)) }
-{
-    for i in 0..n {
-        store[to + i] = store[from + i];
-    }
-}
-
-// Towards the end: from the last byte on.
-#[tactic(auto, using(crate::proofs::Writing::raisings))]
-fn move_up(store: &mut [u8], from: usize, to: usize, n: usize)
-    requires { (from ≤ to) × (to + n ≤ length store.old) }
-    ensures { store.new ≡ sets store.old to (take n (drop from store.old)) }
-{
-    for i in (0..n).rev() {
-        store[to + i] = store[from + i];
-    }
-}
-
-fn move_within(store: &mut [u8], from: usize, to: usize, n: usize)
-    requires { (from + n ≤ length store.old) × (to + n ≤ length store.old) }
-    ensures { store.new ≡ sets store.old to (take n (drop from store.old)) }
-{
-    if to <= from {
-        move_down(store, from, to, n);
-    } else {
-        move_up(store, from, to, n);
-    }
-}
 
 // ---- writing an entry
 
@@ -98,7 +61,7 @@ fn rewrite(store: &mut [u8], gap: Gap, number: usize, contents: &[i32]) -> Resul
         return Err(Refusal::StoreTooShort);
     }
     let new = gap.at + size;
-    move_within(store, gap.old, new, tail);
+    store.copy_within(gap.old..gap.end, new);
     write_entry(store, gap.at, number, contents);
     store[new + tail..].fill(0);
     Ok(())
