@@ -2,14 +2,13 @@
 use Prim.Native.Nat.{ℕ, ◌+◌, ◌-◌, ◌*◌, ◌^◌, ◌≤◌, ◌<◌}
 use mathlib.Core.Path.{◌≡◌, refl, sym, ◌∙◌, ap}
 use mathlib.Core.Bool.{Bool, true, false}
-use mathlib.Core.List.{List, [], ◌∷◌, ◌++◌, append_assoc}
+use mathlib.Core.List.{List, [], ◌∷◌, ◌++◌}
 use native.Mathlib.Omega.{arith}
 use native.Mathlib.Numerals.{add-one}
 use borrow.Author.Tests.{le-leb, lt-leb, leb-true, leb-false}
 use lib.Dec.{leb}
-use lib.ListN.{length, get_or, take, drop, set, length-set, take-append-drop, length-append, drop_of_length-le}
-use lib.Seq.{sets, drop-cons, sets-eq, take_all, drop-drop, length-sets, length-take-le}
-use borrow.Rule.Slice.PartMut.{put_mid}
+use lib.ListN.{length, get_or, drop, set, length-set, length-append, drop_of_length-le}
+use lib.Seq.{sets, drop-cons}
 use borrow.Author.Rules.{Fits-under}
 use mir.Syntax.{w64}
 use mir.Val.{Fits}
@@ -75,39 +74,40 @@ accepted w room at e f j = rw (e, ← f) j
 pub standing : (w l : List ℕ) (at : ℕ) (q : Answer ℕ) {v o : List ℕ} → v ≡ w → o ≡ after_write q v l at → o ≡ after_write q w l at
 standing w l at q f j = rw (← f) j
 
--- ---- as far as there is room
+-- ---- as far as there is room, one by one; `characters` lays its bytes so too
 
-module _ (w l : List ℕ) (at : ℕ) where
-  -- where room is wanting, what is left lies behind the end
-  front-stands : (k : ℕ) → k ≡ in_room (length w) (length l) at → at < length l → sets l at (take k w) ≡ sets l at w
-  front-stands k e h = go (leb (length w) k) refl
-    where
-      long : length (take k w) ≡ k
-      long = length-take-le k w (omega (arith, e))
+-- what is left, laid from here, ends where the whole ends
+pub record Copying (w out₀ out : List ℕ) (at i : ℕ) : Type 0 where
+  pub upto : i ≤ length w
+  pub long : length out ≡ length out₀
+  pub whole : sets out (at + i) (drop i w) ≡ sets out₀ at w
 
-      go : (t : Bool) → leb (length w) k ≡ t → sets l at (take k w) ≡ sets l at w
-      go true g = rw (take_all k w (leb-true (length w) k g))
-      go false g =
-          let past : length (sets l at (take k w)) ≤ at + length (take k w) = omega (arith, e, h, long, length-sets l at (take k w), leb-false (length w) k g) in
-          sym (past_end (sets l at (take k w)) (at + length (take k w)) (drop k w) past)
-          ∙ sets_append (take k w) (drop k w) l at
-          ∙ ap (λ (v : List ℕ). sets l at v) (take-append-drop k w)
+pub copying_none : (w out : List ℕ) (at : ℕ) → Copying w out out at 0
+copying_none w out at =
+    let z : at + 0 ≡ at = omega arith in
+    record { upto = omega arith; long = refl; whole = ap (λ (k : ℕ). sets out k w) z }
 
-  pub front_copied : {k : ℕ} {v : List ℕ} → k ≡ in_room (length w) (length l) at → at < length l → v ≡ take k w → put_mid at (at + k - at) l v ≡ sets l at w
-  front_copied {k} {v} e h j =
-      let long : length v ≡ k = rw j (length-take-le k w (omega (arith, e))) in
-      let n : at + (at + k - at) ≡ at + length v = omega (arith, long) in
-      sym (append_assoc (take at l) v (drop (at + k - at) (drop at l)))
-      ∙ ap (λ (m : List ℕ). take at l ++ v ++ m) (drop-drop (at + k - at) at l)
-      ∙ ap (λ (m : ℕ). take at l ++ v ++ drop m l) n
-      ∙ sym (sets-eq v l at (omega (arith, e, h, long)))
-      ∙ ap (λ (x : List ℕ). sets l at x) j
-      ∙ front-stands k e h
+pub copying_more : (w out₀ out : List ℕ) (at i : ℕ) {count : ℕ} → Copying w out₀ out at i → count ≡ in_room (length w) (length out₀) at → i < count → Copying w out₀ (set out (at + i) (get_or w i 0)) at (i + 1)
+copying_more w out₀ out at i f e k =
+    let h : i < length w = omega (arith, e, k) in
+    let b = get_or w i 0 in
+    let d : drop i w ≡ b ∷ drop (i + 1) w = drop-cons w i 0 h ∙ rw (add-one i) in
+    let z : at + (i + 1) ≡ at + i + 1 = omega arith in
+    record {
+      upto = omega arith;
+      long = length-set out (at + i) b ∙ f.long;
+      whole = rw (z, add-one (at + i)) (rw d at f.whole);
+    }
 
-  pub none_copied : length l ≤ at → l ≡ sets l at w
-  none_copied h = sym (past_end l at w h)
+-- where room was wanting, what is left lies behind the end
+pub copying_end : (w out₀ out : List ℕ) (at i : ℕ) {count : ℕ} → Copying w out₀ out at i → count ≡ in_room (length w) (length out₀) at → count ≤ i → out ≡ sets out₀ at w
+copying_end w out₀ out at i f e h = go (leb (length w) i) refl
+  where
+    go : (t : Bool) → leb (length w) i ≡ t → out ≡ sets out₀ at w
+    go true g = let d : drop i w ≡ [] = drop_of_length-le w (leb-true (length w) i g) in rw d at f.whole
+    go false g = sym (past_end out (at + i) (drop i w) (omega (arith, e, h, f.long, leb-false (length w) i g))) ∙ f.whole
 
-pub ruleset copyings = (front_copied, none_copied)
+pub ruleset copyings = (copying_none, copying_more, copying_end)
 
 -- ---- byte by byte
 
@@ -180,36 +180,3 @@ pub ruleset rooms = (at-past, no_room, has_room)
 pub ruleset ranged = (none_size, none_stand, pours_size, pours_stand)
 
 pub ruleset writings = (written-so, all_changed, none_changed)
-
--- ---- laid one by one, as `characters` lays them
-
--- what is left, laid from here, ends where the whole ends
-pub record Copying (w out₀ out : List ℕ) (at i : ℕ) : Type 0 where
-  pub upto : i ≤ length w
-  pub long : length out ≡ length out₀
-  pub whole : sets out (at + i) (drop i w) ≡ sets out₀ at w
-
-pub copying_none : (w out : List ℕ) (at : ℕ) → Copying w out out at 0
-copying_none w out at =
-    let z : at + 0 ≡ at = omega arith in
-    record { upto = omega arith; long = refl; whole = ap (λ (k : ℕ). sets out k w) z }
-
-pub copying_more : (w out₀ out : List ℕ) (at i : ℕ) {count : ℕ} → Copying w out₀ out at i → count ≡ in_room (length w) (length out₀) at → i < count → Copying w out₀ (set out (at + i) (get_or w i 0)) at (i + 1)
-copying_more w out₀ out at i f e k =
-    let h : i < length w = omega (arith, e, k) in
-    let b = get_or w i 0 in
-    let d : drop i w ≡ b ∷ drop (i + 1) w = drop-cons w i 0 h ∙ rw (add-one i) in
-    let z : at + (i + 1) ≡ at + i + 1 = omega arith in
-    record {
-      upto = omega arith;
-      long = length-set out (at + i) b ∙ f.long;
-      whole = rw (z, add-one (at + i)) (rw d at f.whole);
-    }
-
--- where room was wanting, what is left lies behind the end
-pub copying_end : (w out₀ out : List ℕ) (at i : ℕ) {count : ℕ} → Copying w out₀ out at i → count ≡ in_room (length w) (length out₀) at → count ≤ i → out ≡ sets out₀ at w
-copying_end w out₀ out at i f e h = go (leb (length w) i) refl
-  where
-    go : (t : Bool) → leb (length w) i ≡ t → out ≡ sets out₀ at w
-    go true g = let d : drop i w ≡ [] = drop_of_length-le w (leb-true (length w) i g) in rw d at f.whole
-    go false g = sym (past_end out (at + i) (drop i w) (omega (arith, e, h, f.long, leb-false (length w) i g))) ∙ f.whole

@@ -130,14 +130,15 @@ pub fn in_room(size: usize, room: usize, at: usize) -> usize
     size.min(room.saturating_sub(at))
 }
 
-// The bytes `w` into `out` from `at` on, as far as there is room.
+// The bytes `w` into `out` from `at` on, as far as there is room. Byte by byte: for `copy_from_slice` the archive would need `memmove` of the program that
+// it is linked to (include/ardhrumesh.h).
 #[tactic(auto, using(crate::proofs::Writings::copyings))]
 pub fn copy(w: &[u8], out: &mut [u8], at: usize)
     ensures { out.new ≡ sets out.old at w.now }
 {
     let count = in_room(w.len(), out.len(), at);
-    if at < out.len() {
-        out[at..at + count].copy_from_slice(&w[..count]);
+    for i in 0..count {
+        out[at + i] = w[i];
     }
 }
 
