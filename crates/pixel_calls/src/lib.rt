@@ -64,7 +64,7 @@ fn hand(fields: &mut [usize; 7], came: Beam, setting: Result<Beam, Refusal>) -> 
     }
 }
 
-// The same of a write, with the number of pixels. One function for both would hand a number of pixels back to five calls that have none.
+// The same of a write, with the number of pixels. One function for both would hand a number of pixels back to four calls that have none.
 #[tactic(auto, unfolding(pixels::specs::Writes::drawn_by))]
 fn hand_written(
     fields: &mut [usize; 7],
@@ -90,6 +90,7 @@ fn hand_written(
 
 // ---- setting the record
 
+// No record came: the one beside the refusal is handed back.
 #[tactic(auto, unfolding(beam::specs::Settings::fresh_by))]
 pub fn ardh_fresh(w: usize, h: usize, fields: &mut [usize; 7]) -> u8
     ensures { HandsSettled (make_fresh w h) result fields.new }
