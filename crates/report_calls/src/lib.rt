@@ -76,7 +76,6 @@ fn hand_writing(written: Result<usize, Refusal>, next: &mut usize) -> u8
     }
 }
 
-#[tactic(auto, using(crate::proofs::Slots::report_given, crate::proofs::Slots::spelling_given))]
 pub fn ardh_write_integer_report(value: i32, out: &mut [u8], start: usize, next: &mut usize) -> u8
     ensures hands_writing { HandsWriting (write_report value (length out.old) start) result next.new }
     ensures out_after { out.new ≡ after_write (write_report value (length out.old) start) (spell_report value) out.old start }
