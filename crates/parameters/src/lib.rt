@@ -63,12 +63,13 @@ pub struct CountedRun {
     pub next: usize,
 }
 
-// Parameters that were read, the run of their entries, and what is then remembered.
+// Parameters that were read, the run of their entries, and what is then remembered. In this order: the answer is a `Result`, in which the mode then shares a
+// byte with the refusal and the parameters share a word with its place. In another order words are put together byte by byte (docs/BENCHMARKS.md).
 #[derive(Clone, Copy)]
 pub struct TakenParameters {
+    pub kept: Remembered,
     pub parameters: Parameters,
     pub run: CountedRun,
-    pub kept: Remembered,
 }
 
 // Two integers or characters, and where reading goes on. It is public since the laws of whole commands speak of it.
