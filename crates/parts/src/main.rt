@@ -14,7 +14,8 @@ const SAVED: [u8; 14] = [0, 10, 1, 66, 0, 14, 3, 1, 2, 3, 255, 254, 1, 127];
 // An entry that its store ends in.
 const MALFORMED: [u8; 4] = [0, 10, 2, 72];
 
-// `vectors` has the same lines: in a library they would owe a promise of what `write!` appends for a number, which std's does not give.
+// A blank before each; `vectors` has one between. In a library these lines would owe a promise of what `write!` appends for a number, which std's
+// does not give.
 fn bytes<W: Write>(writer: &mut W, s: &[u8]) -> io::Result<()> {
     for b in s {
         write!(writer, " {b}")?;
@@ -22,9 +23,14 @@ fn bytes<W: Write>(writer: &mut W, s: &[u8]) -> io::Result<()> {
     Ok(())
 }
 
-// What is found is 0, or the refusal's number.
+// What is found is 0, or the refusal's number. Standard output is not buffered, so each piece is one write, and a minus is a piece before the
+// digits; `{number}` would write both in one.
 fn line<W: Write>(writer: &mut W, stores: Stores<'_>, number: i32) -> io::Result<()> {
-    write!(writer, "macro {number} of")?;
+    write!(writer, "macro ")?;
+    if number < 0 {
+        write!(writer, "-")?;
+    }
+    write!(writer, "{} of", number.unsigned_abs())?;
     bytes(writer, stores.volatile)?;
     write!(writer, " and of")?;
     bytes(writer, stores.saved)?;

@@ -23,8 +23,12 @@ fn write_row<W: Write>(writer: &mut W, row: &[u8]) -> io::Result<()> {
     writer.write_all(out.as_flattened())
 }
 
+// The heading has the two sizes.
+const _: () = prove!(WIDTH == 480 && HEIGHT == 360);
+
+// The heading is one write, as each row is: standard output is not buffered, and `write!` would cut it at its numbers.
 pub fn write<W: Write>(writer: &mut W, surface: &[u8]) -> io::Result<()> {
-    write!(writer, "P6\n{WIDTH} {HEIGHT}\n255\n")?;
+    writer.write_all(b"P6\n480 360\n255\n")?;
     for row in surface.chunks(WIDTH) {
         write_row(writer, row)?;
     }

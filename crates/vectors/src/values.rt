@@ -7,16 +7,17 @@ use std::io::Write;
 
 // What was written into `out` from its front on, and the line's end.
 fn written<W: Write>(writer: &mut W, answer: Result<usize, Refusal>, out: &[u8]) -> io::Result<()> {
-    write!(writer, " =")?;
+    write!(writer, " = ")?;
     match answer {
         Ok(n) => print::bytes(writer, front(out, n))?,
-        Err(refusal) => write!(writer, " refusal {}", refusal.number())?,
+        Err(refusal) => write!(writer, "refusal {}", refusal.number())?,
     }
     writeln!(writer)
 }
 
 fn integer<W: Write>(writer: &mut W, v: i32) -> io::Result<()> {
-    write!(writer, "integer {v}")?;
+    write!(writer, "integer ")?;
+    print::signed(writer, v)?;
     let mut out = [255; 8];
     let answer = spelling::write_integer(memory::fresh(), v, &mut out, 0);
     written(writer, answer, &out)
@@ -24,7 +25,8 @@ fn integer<W: Write>(writer: &mut W, v: i32) -> io::Result<()> {
 
 // Its call alone is another than in `integer`: passed in as a closure it would need a `requires`, and be no plainer.
 fn report<W: Write>(writer: &mut W, v: i32) -> io::Result<()> {
-    write!(writer, "report {v}")?;
+    write!(writer, "report ")?;
+    print::signed(writer, v)?;
     let mut out = [255; 8];
     let answer = reports::write_integer(v, &mut out, 0);
     written(writer, answer, &out)
@@ -42,12 +44,14 @@ fn point<W: Write>(writer: &mut W, to: Point, from: Point) -> io::Result<()> {
 }
 
 fn read<W: Write>(writer: &mut W, s: &[u8]) -> io::Result<()> {
-    write!(writer, "read")?;
+    write!(writer, "read ")?;
     print::bytes(writer, s)?;
+    write!(writer, " = ")?;
     match numbers::read_integer(memory::fresh(), s, 0) {
-        Ok(integer) => writeln!(writer, " = {}", integer.value),
-        Err(e) => writeln!(writer, " = refusal {} at {}", e.refusal.number(), e.place),
+        Ok(integer) => print::signed(writer, integer.value)?,
+        Err(e) => write!(writer, "refusal {} at {}", e.refusal.number(), e.place)?,
     }
+    writeln!(writer)
 }
 
 fn integer_lines<W: Write>(writer: &mut W) -> io::Result<()> {
