@@ -19,10 +19,10 @@ pub enum DelMode {
 
 #[derive(Clone, Copy)]
 pub struct Remembered {
-    // the DEL mode; it stands first for the reason that `parameters::TakenParameters` gives
-    pub mode: DelMode,
     // the last point
     pub point: Point,
+    // the DEL mode
+    pub mode: DelMode,
 }
 
 // "A fresh remembered point is (0,0)." "The mode goes with the remembered point, fresh 0."

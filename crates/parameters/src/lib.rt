@@ -63,8 +63,8 @@ pub struct CountedRun {
     pub next: usize,
 }
 
-// Parameters that were read, the run of their entries, and what is then remembered. In this order: the answer is a `Result`, in which the mode then shares a
-// byte with the refusal and the parameters share a word with its place. In another order words are put together byte by byte (docs/BENCHMARKS.md).
+// Parameters that were read, the run of their entries, and what is then remembered. In this order: the answer is a `Result`, in which the parameters then
+// share a word with the place of a refusal. In another order that word is put together byte by byte (docs/BENCHMARKS.md).
 #[derive(Clone, Copy)]
 pub struct TakenParameters {
     pub kept: Remembered,
