@@ -32,28 +32,30 @@ pub fn point_given(x: i32, y: i32) -> Point
 // ---- what is remembered
 
 // A mode that is neither 0 nor 1 stands for a point outside, so that each call refuses it with 8, "value out of range". By name and not by `From`, here and
-// below: an array and what is remembered are both of other crates.
+// below: an array and what is remembered are both of other crates. One test comes before the mode is told: with a `match` of three arms the point is
+// fetched in halves, and each item is read by more jumps (docs/BENCHMARKS.md).
 #[tactic(auto, using(refusals::proofs::Rules::tests), unfolding(crate::specs::Remembering::kept_in))]
 pub fn kept_in(remembered: &[u16; 3]) -> Remembered
     ensures { result ≡ kept_in remembered.now }
 {
     let [x, y, number] = *remembered;
-    match number {
-        0 => Remembered {
-            point: Point { x, y },
-            mode: DelMode::Data,
-        },
-        1 => Remembered {
-            point: Point { x, y },
-            mode: DelMode::Filler,
-        },
-        _ => Remembered {
+    if number > 1 {
+        return Remembered {
             point: Point {
                 x: OUTSIDE,
                 y: OUTSIDE,
             },
             mode: DelMode::Data,
-        },
+        };
+    }
+    let mode = if number == 1 {
+        DelMode::Filler
+    } else {
+        DelMode::Data
+    };
+    Remembered {
+        point: Point { x, y },
+        mode,
     }
 }
 
