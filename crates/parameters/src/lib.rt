@@ -429,7 +429,8 @@ fn look_integer_then_list(
 }
 
 // The parameters of a command of this kind, from `at` on. The entries of a string or an array go to the list if all is good and
-// it has room for all of them.
+// it has room for all of them. It is put into its callers: what it gives is then not stored to be fetched again (docs/BENCHMARKS.md).
+#[inline(always)]
 #[tactic(auto, using(crate::proofs::Looks::of_kinds))]
 pub fn look_at(
     kept: Remembered,
