@@ -66,7 +66,8 @@ fn after_one(kept: Remembered, s: &[u8], at: usize, high: u16) -> Result<Taken<i
     after_two(kept, s, byte.next, higher)
 }
 
-// An integer byte by byte.
+// An integer byte by byte, in a call of its own: the quick way below is put into its callers, and this is not.
+#[inline(never)]
 #[tactic(auto, using(crate::proofs::Reading::low_step, crate::proofs::Reading::first_step, crate::proofs::Reading::no_step))]
 fn by_bytes(kept: Remembered, s: &[u8], at: usize) -> Result<Taken<i32>, RefusedAt>
     ensures { answer_at result ≡ integer_at kept s.now at }
@@ -142,6 +143,8 @@ fn among_three(kept: Remembered, s: &[u8], at: usize) -> Result<Taken<i32>, Refu
     low_byte(high_value(a, b), low, place, next)
 }
 
+// It is put into its callers: a list's integers are then read with no call for each (docs/BENCHMARKS.md).
+#[inline(always)]
 #[tactic(auto, using(crate::proofs::Ahead::ahead_told))]
 pub fn read_integer(kept: Remembered, s: &[u8], at: usize) -> Result<Taken<i32>, RefusedAt>
     ensures { answer_at result ≡ integer_at kept s.now at }

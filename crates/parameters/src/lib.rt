@@ -94,7 +94,8 @@ fn read_character(kept: Remembered, s: &[u8], at: usize) -> Result<Taken<i32>, R
     })
 }
 
-// An integer, or a character as a number.
+// An integer, or a character as a number; put into the loops below, as `numbers::read_integer` is.
+#[inline(always)]
 #[tactic(auto, unfolding(crate::specs::Entries::entry_at))]
 fn read_entry(kept: Remembered, entry: Entry, s: &[u8], at: usize) -> Result<Taken<i32>, RefusedAt>
     ensures { answer_at result ≡ entry_at entry kept s.now at }
